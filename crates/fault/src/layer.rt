@@ -1,0 +1,22 @@
+// Which layer refused. Each layer has a letter.
+ghost use mathlib.Core.Path.{_≡_};
+ghost use Rattle.fault.specs.Faults.{letterOf};
+
+#[derive(Clone, Copy, Debug, PartialEq, Eq)]
+pub enum Layer {
+    // The definition box, `cmpd`.
+    DefinitionBox,
+    // The configuration box, `uncC`.
+    ConfigurationBox,
+}
+
+impl Layer {
+    pub fn letter(self) -> char
+        ensures { λ r. ⌜ r ≡ letterOf self ⌝ }
+    {
+        match self {
+            Layer::DefinitionBox => 'd',
+            Layer::ConfigurationBox => 'u',
+        }
+    }
+}
