@@ -1,0 +1,4 @@
+pub mod Field
+pub mod Header
+pub mod Items
+pub mod Put
