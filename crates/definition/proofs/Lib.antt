@@ -1,0 +1,4 @@
+pub mod Uris
+pub mod Describing
+pub mod Defining
+pub mod Definable

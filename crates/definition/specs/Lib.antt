@@ -1,0 +1,4 @@
+pub mod Components
+pub mod Definitions
+pub mod Encoded
+pub mod RoundTrip
