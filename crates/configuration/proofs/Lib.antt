@@ -1,0 +1,5 @@
+pub mod Entering
+pub mod Choosing
+pub mod Numbering
+pub mod Listable
+pub mod Configurable
