@@ -10,7 +10,7 @@ use crate::reason::ReasonPartialEq;
 use std::fmt;
 
 // A place is where the fault lies, in what its layer counts: for a box, the byte offset of the field
-// that is wrong or runs past the end, or of the first byte left over.
+// that is wrong or runs past the end, or of the first byte left over; for a single value always 0.
 #[derive(Clone, Copy, Debug, PartialEq, Eq)]
 pub struct Fault {
     pub reason: Reason,

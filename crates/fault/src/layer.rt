@@ -8,6 +8,12 @@ pub enum Layer {
     DefinitionBox,
     // The configuration box, `uncC`.
     ConfigurationBox,
+    // The rules that a configuration keeps.
+    Configuration,
+    // A frame and the values that it holds.
+    Frame,
+    // A source or a store of bytes.
+    Store,
 }
 
 impl Layer {
@@ -17,6 +23,9 @@ impl Layer {
         match self {
             Layer::DefinitionBox => 'd',
             Layer::ConfigurationBox => 'u',
+            Layer::Configuration => 'c',
+            Layer::Frame => 'f',
+            Layer::Store => 's',
         }
     }
 }

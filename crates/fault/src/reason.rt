@@ -14,8 +14,32 @@ pub enum Reason {
     Count,
     // A field holds a value that is reserved.
     Reserved,
+    // The definition box is absent in version 0, or present in version 1.
+    Presence,
+    // A width or a height that no frame has.
+    Dimensions,
+    // An entry lists an index that is not defined, or once more.
+    Index,
+    // An entry's depth, type or align does not go with its format.
+    Depth,
+    // The interleave, the sampling and the list do not go together.
+    Interleaving,
+    // The block size or a byte order does not go with the entries.
+    Blocks,
+    // A pixel size, row align or tile align that cannot be.
+    Alignment,
+    // The tiles do not divide the frame.
+    Tiles,
+    // A code has no room in the bits that are to hold it.
+    Code,
+    // A kind of value does not take a component's format and depth.
+    Kind,
+    // A byte number is at or past the length.
+    Bounds,
     // An output buffer is too short.
     Room,
+    // A float, or a part of a complex number, is not a number.
+    NotANumber,
 }
 
 impl Reason {
@@ -28,7 +52,19 @@ impl Reason {
             Reason::Version => 3,
             Reason::Count => 4,
             Reason::Reserved => 5,
+            Reason::Presence => 6,
+            Reason::Dimensions => 7,
+            Reason::Index => 8,
+            Reason::Depth => 9,
+            Reason::Interleaving => 10,
+            Reason::Blocks => 11,
+            Reason::Alignment => 12,
+            Reason::Tiles => 13,
+            Reason::Code => 22,
+            Reason::Kind => 23,
+            Reason::Bounds => 26,
             Reason::Room => 27,
+            Reason::NotANumber => 28,
         }
     }
 
@@ -41,7 +77,20 @@ impl Reason {
             Reason::Version => "a version above 1, or box flags that are not 0",
             Reason::Count => "a count of 0 or above 16",
             Reason::Reserved => "a reserved value",
+            Reason::Presence =>
+                "the definition box is absent in version 0, or present in version 1",
+            Reason::Dimensions => "a width or height outside 1 to 32768",
+            Reason::Index => "an index that is not defined, or that was listed before",
+            Reason::Depth => "a depth, type or align that does not go with the format",
+            Reason::Interleaving => "an interleave that does not go with the sampling and the list",
+            Reason::Blocks => "a block size or byte order that does not go with the entries",
+            Reason::Alignment => "a pixel size, row align or tile align that cannot be",
+            Reason::Tiles => "tiles that do not divide the frame, or its chroma",
+            Reason::Code => "the code is not below 2 to the depth",
+            Reason::Kind => "the kind of value does not take this component",
+            Reason::Bounds => "a byte number at or past the length",
             Reason::Room => "the output buffer is too short for this box",
+            Reason::NotANumber => "not a number",
         }
     }
 }

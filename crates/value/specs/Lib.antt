@@ -1,0 +1,4 @@
+pub mod Coded
+pub mod Complexes
+pub mod Components
+pub mod Floats
