@@ -1,4 +1,5 @@
-//! Prints what the boxes of each lane say, and that they are the same bytes when they are written back.
+//! Prints what the boxes of each lane say, and that they are the same bytes when they are written back; and of a lane's raw
+//! frame, that it is the same bytes read straight and through the lane's ring.
 
 mod arguments;
 mod failure;
@@ -6,6 +7,7 @@ mod layout;
 mod names;
 mod received;
 mod returned;
+mod ringed;
 mod shown;
 mod statement;
 

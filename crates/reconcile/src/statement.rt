@@ -1,4 +1,5 @@
 // The statement of one lane.
+use crate::arguments::Frame;
 use crate::arguments::Lane;
 use crate::failure::Failure;
 use crate::failure::FailureFromAlloc;
@@ -10,6 +11,7 @@ use crate::received::Received;
 use crate::returned::Returned;
 use crate::returned::configuration_returned;
 use crate::returned::definition_returned;
+use crate::ringed::same_through_ring;
 use crate::shown::Alignment;
 use crate::shown::AlignmentDisplay;
 use crate::shown::Escaped;
@@ -21,6 +23,7 @@ use boxes::Configuration;
 use boxes::Definition;
 use boxes::Listing;
 use fault::FaultDisplay;
+use rules::check;
 use std::io;
 
 // The lane, its frame and its files. An empty line parts it from the lane before.
@@ -110,6 +113,29 @@ fn print_boxes(rt: &LibcRuntime, boxes: &Boxes) -> Result<(), Failure> {
     Ok(())
 }
 
+// The first rule that the configuration breaks for a frame of this size, or that it keeps all of them.
+fn print_rules(rt: &LibcRuntime, boxes: &Boxes, frame: Frame) -> io::Result<()> {
+    match check(boxes, frame.width, frame.height) {
+        Ok(()) => println!(rt, "  rules       all are kept"),
+        Err(fault) => println!(rt, "  rules       {fault}"),
+    }
+}
+
+// Whether the frame is the same bytes read straight and through a ring.
+fn print_frame(rt: &LibcRuntime, frame: &[u8], cut: usize) -> Result<(), Failure> {
+    let len = frame.len();
+    let outcome = if same_through_ring(rt.alloc(), frame, cut)? {
+        "the same bytes"
+    } else {
+        "NOT the same bytes"
+    };
+    println!(
+        rt,
+        "  frame: {len} bytes, read straight and through a ring cut after {cut}: {outcome}"
+    )?;
+    Ok(())
+}
+
 pub(crate) fn print_lane(rt: &LibcRuntime, received: &Received) -> Result<(), Failure> {
     print_head(rt, &received.lane)?;
     let configuration = received.configuration.as_slice();
@@ -120,12 +146,16 @@ pub(crate) fn print_lane(rt: &LibcRuntime, received: &Received) -> Result<(), Fa
     match Boxes::read(definition, configuration) {
         Ok(boxes) => {
             print_boxes(rt, &boxes)?;
+            print_rules(rt, &boxes, received.lane.frame)?;
             let returned = configuration_returned(rt.alloc(), &boxes, configuration)?;
             print_returned(rt, "configuration", returned)?;
             let returned = definition_returned(rt.alloc(), &boxes, definition)?;
             print_returned(rt, "definition", returned)?;
         }
         Err(fault) => println!(rt, "  {fault}")?,
+    }
+    if let (Some(frame), Some(raw)) = (&received.raw, received.lane.raw) {
+        print_frame(rt, frame.as_slice(), raw.cut)?;
     }
     Ok(())
 }

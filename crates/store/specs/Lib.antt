@@ -1,0 +1,4 @@
+pub mod Access
+pub mod Copies
+pub mod Ends
+pub mod Unwritten

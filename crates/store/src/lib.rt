@@ -1,0 +1,40 @@
+//! Sources and stores of bytes: what can be read and what can be written, byte by byte, whatever it lies on.
+
+mod bounds;
+mod copying;
+mod held;
+mod join;
+mod lent;
+mod memory;
+mod ramp;
+mod rings;
+mod sameness;
+mod slice;
+mod source;
+mod store;
+mod window;
+
+pub use bounds::out_of_bounds;
+pub use copying::copy;
+pub use held::Held;
+pub use held::HeldSource;
+pub use join::Join;
+pub use join::JoinSource;
+pub use join::JoinStore;
+pub use lent::LentMutSource;
+pub use lent::LentMutStore;
+pub use lent::LentSource;
+pub use memory::Memory;
+pub use memory::MemorySource;
+pub use memory::MemoryStore;
+pub use ramp::Ramp;
+pub use ramp::RampSource;
+pub use rings::held_ring;
+pub use rings::ring;
+pub use sameness::same_bytes;
+pub use source::LIMIT;
+pub use source::Source;
+pub use store::Store;
+pub use window::Window;
+pub use window::WindowSource;
+pub use window::WindowStore;
