@@ -1,5 +1,7 @@
 //! Both boxes of one lane, read and written together: what components a frame has, and how they are laid out.
 
+#![tactic(auto)]
+
 mod boxes;
 
 pub use boxes::Boxes;

@@ -1,6 +1,8 @@
 //! Tests of the two boxes: what is refused and where, what is read, and what is written back.
 //! docs/FORMAT.md and docs/REFUSALS.md have the rules that they hold the library to.
 
+#![tactic(auto)]
+
 #[cfg(test)]
 mod case;
 #[cfg(test)]

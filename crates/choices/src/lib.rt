@@ -1,5 +1,7 @@
 //! The closed choices of the configuration box, each with its number: formats, samplings, interleaves and flags.
 
+#![tactic(auto)]
+
 mod choice;
 mod flags;
 

@@ -2,7 +2,7 @@
 use Rattle.std.proofs.Common.{◌≡◌, ℕ, ◌+◌, ◌-◌, ◌*◌, ◌^◌, ◌<◌, ◌≤◌, Bool, true, false, cond, eqb, leb, List, [], ◌∷◌, ◌++◌, map, length, get_or, take, replicate, Ok, Result, sym, refl, ap, ◌∙◌, subst, arith, lit<, lit≤, eq-eqb, eqb-true, le-leb, leb-true}
 use borrow.Author.Tests.{eqb-false}
 use Rattle.std.proofs.lemmas.List.{map-id, length-append, length-replicate, length-take, length-take-le}
-use Rattle.std.specs.List.{flat_map, AllByRecursion as All}
+use Rattle.std.specs.List.{flat_map, AllByRecursion}
 use Rattle.fault.specs.Faults.{fault}
 use Rattle.fault.specs.declared.fault.Fault.{Fault}
 use Rattle.fault.specs.declared.layer.Layer.TheVariants.{ConfigurationBox}
@@ -149,7 +149,7 @@ module _ (xs : List ℕ) where
             some = count.0;
             few = count.1;
             table = ap (λ t. t.value) (sym made) ∙ ap (padded blank) (sym first-es);
-            each = subst (λ t. All WellEntered t) (sym first-es) (subst (λ t. All WellEntered t) idem ms.well);
+            each = subst (λ t. AllByRecursion WellEntered t) (sym first-es) (subst (λ t. AllByRecursion WellEntered t) idem ms.well);
             profile = small;
             block = p.1;
             sizes = z.1;

@@ -1,6 +1,6 @@
 -- Reading and writing are inverse to each other: a box is accepted exactly if it is the writing of something well formed.
 use Rattle.std.specs.Prelude.{◌≡◌, ℕ, ◌^◌, ◌<◌, ◌≤◌, List, length, Ok, Result}
-use Rattle.std.specs.List.{AllByRecursion as All}
+use Rattle.std.specs.List.{AllByRecursion}
 use Rattle.fault.specs.declared.fault.Fault.{Fault}
 use Rattle.configuration.specs.Configurations.{read_configuration}
 use Rattle.configuration.specs.Encoded.{listed, configuration_bytes}
@@ -14,7 +14,7 @@ use Rattle.configuration.specs.declared.listing.Sizes.{Sizes}
 
 -- every number fits a byte
 abbrev pub Octets : List ℕ → Type 0
-Octets xs = All (λ b. b < 256) xs
+Octets xs = AllByRecursion (λ b. b < 256) xs
 
 -- a value that fits its fields
 abbrev pub WellEntered : Entry → Type 0
@@ -32,7 +32,7 @@ pub record WellListed (l : Listing) : Type 0 where
   pub some : 1 ≤ l.count
   pub few : l.count ≤ 16
   pub table : l.table ≡ padded blank (listed l)
-  pub each : All WellEntered (listed l)
+  pub each : AllByRecursion WellEntered (listed l)
   pub profile : l.profile < 2 ^ 32
   pub block : l.packing.block < 256
   pub sizes : WellSized l.sizes

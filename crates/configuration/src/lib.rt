@@ -1,5 +1,7 @@
 //! The configuration box, `uncC`: how the values of a frame's components are laid out.
 
+#![tactic(auto)]
+
 mod configuration;
 mod entry;
 mod listing;

@@ -4,7 +4,7 @@ use borrow.Author.Tests.{eqb-false}
 use Rattle.std.proofs.lemmas.List.{append_assoc, length-append, length-drop, length-take-le, get_or-drop, drop-drop, take_at}
 use Rattle.std.proofs.ByRecursion.{All-from_get_or}
 use Rattle.std.proofs.lemmas.Bool.Decides.{nat_tests}
-use Rattle.std.specs.List.{AllByRecursion as All}
+use Rattle.std.specs.List.{AllByRecursion}
 use Rattle.std.specs.Option.{option_map}
 use Rattle.fault.specs.Faults.{fault}
 use Rattle.fault.specs.declared.fault.Fault.{Fault}
@@ -43,12 +43,12 @@ run_splits (y ∷ ys) =
     let n : suc (run ys) + 1 ≡ suc (run ys + 1) = omega arith in
     ap (λ z. y ∷ z) (run_splits ys (omega arith)) ∙ ap (λ k. y ∷ (take (run ys) ys ++ (0 ∷ drop k (y ∷ ys)))) (sym n))
 
-run_letters : (ys : List ℕ) → All (λ b. b < 256) ys → All Letter (take (run ys) ys)
+run_letters : (ys : List ℕ) → AllByRecursion (λ b. b < 256) ys → AllByRecursion Letter (take (run ys) ys)
 run_letters [] = λ w. tt
-run_letters (y ∷ ys) = run_step (λ zs n. All (λ b. b < 256) zs → All Letter (take n zs)) y ys (λ _ _. tt) (λ ne w. ((omega arith, w.0), run_letters ys w.1))
+run_letters (y ∷ ys) = run_step (λ zs n. AllByRecursion (λ b. b < 256) zs → AllByRecursion Letter (take n zs)) y ys (λ _ _. tt) (λ ne w. ((omega arith, w.0), run_letters ys w.1))
 
 -- a zero byte after bytes that are not zero ends the run
-run_of : (u rest : List ℕ) → All Letter u → run (u ++ (0 ∷ rest)) ≡ length u
+run_of : (u rest : List ℕ) → AllByRecursion Letter u → run (u ++ (0 ∷ rest)) ≡ length u
 run_of [] rest w = refl
 run_of (b ∷ u) rest w =
     let z : eqb b 0 ≡ false = ne_eqb b 0 (λ e. omega (arith, w.0.0)) in
@@ -59,7 +59,7 @@ module _ (xs : List ℕ) where
   OneComponent = Element xs component_at (described xs) described_bytes WellDescribed
 
   module _ (o : Bytes xs) where
-    octets-from : (a : ℕ) → All (λ b. b < 256) (drop a xs)
+    octets-from : (a : ℕ) → AllByRecursion (λ b. b < 256) (drop a xs)
     octets-from a = All-from_get_or (λ b. b < 256) (drop a xs) 0 (λ i _. subst (λ b. b < 256) (sym (get_or-drop a xs i 0)) (o (a + i)))
 
     -- a URI that ends in the box stands there
@@ -102,7 +102,7 @@ module _ (xs : List ℕ) where
             let inside = ltb-true _ _ (check_ok _ _ v g1) in
             let high = ltb-false number 0x8000 t in
             let us = subst (λ k. Stands xs (a + 2) (take k (drop (a + 2) xs) ++ 0 ∷ [])) len (uri-stands (a + 2) inside) in
-            let w = subst (λ k. All Letter (take k (drop (a + 2) xs))) len (run_letters (drop (a + 2) xs) (octets-from (a + 2))) in
+            let w = subst (λ k. AllByRecursion Letter (take k (drop (a + 2) xs))) len (run_letters (drop (a + 2) xs) (octets-from (a + 2))) in
             let u = take n (drop (a + 2) xs) in
             let k = length-append u (0 ∷ []) in
             let m = length-take-le n (drop (a + 2) xs) (omega (arith, length-drop (a + 2) xs)) in

@@ -1,6 +1,6 @@
 -- Reading and writing are inverse to each other: a box is accepted exactly if it is the writing of something well formed.
 use Rattle.std.specs.Prelude.{◌≡◌, ℕ, ◌^◌, ◌<◌, ◌≤◌, List, length, Some, None, Ok, Option, Result}
-use Rattle.std.specs.List.{AllByRecursion as All}
+use Rattle.std.specs.List.{AllByRecursion}
 use Rattle.fault.specs.declared.fault.Fault.{Fault}
 use Rattle.definition.specs.Definitions.{read_definition}
 use Rattle.definition.specs.Encoded.{Described, defined_by, definition_bytes}
@@ -8,12 +8,12 @@ use Rattle.definition.specs.declared.definition.Components.{Components}
 
 -- every number fits a byte
 abbrev pub Octets : List ℕ → Type 0
-Octets xs = All (λ b. b < 256) xs
+Octets xs = AllByRecursion (λ b. b < 256) xs
 
 -- a type of the standard's has no URI, one of the user's own has one, with no zero byte in it
 abbrev pub WellTyped : ℕ → Option (List ℕ) → Type 0
 WellTyped number None = number ≤ 16
-WellTyped number (Some uri) = (0x8000 ≤ number) × (number < 2 ^ 16) × All (λ b. (0 < b) × (b < 256)) uri
+WellTyped number (Some uri) = (0x8000 ≤ number) × (number < 2 ^ 16) × AllByRecursion (λ b. (0 < b) × (b < 256)) uri
 
 abbrev pub WellDescribed : Described → Type 0
 WellDescribed d = WellTyped d.number d.uri
@@ -22,7 +22,7 @@ WellDescribed d = WellTyped d.number d.uri
 pub record WellDefined (ds : List Described) : Type 0 where
   pub some : 1 ≤ length ds
   pub few : length ds ≤ 16
-  pub each : All WellDescribed ds
+  pub each : AllByRecursion WellDescribed ds
   pub short : length (definition_bytes ds) < 2 ^ 32
 
 -- r is what reading xs answers: accepted exactly if xs is the writing of something well formed, which is then what was read

@@ -1,5 +1,7 @@
 //! The definition box, `cmpd`: what components a frame has.
 
+#![tactic(auto)]
+
 mod component;
 mod definition;
 

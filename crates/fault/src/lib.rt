@@ -1,5 +1,7 @@
 //! Why something was refused: a reason with its number, a layer with its letter, and a place.
 
+#![tactic(auto)]
+
 mod fault;
 mod layer;
 mod reason;

@@ -1,7 +1,7 @@
 -- A list in a box stands there as it is written, and what is written is read.
 use Rattle.std.proofs.Common.{◌≡◌, ℕ, zero, suc, ◌+◌, ◌≤◌, List, [], ◌∷◌, ◌++◌, map, length, Ok, Result, sym, refl, ap, ◌∙◌, subst, arith}
 use Rattle.std.proofs.lemmas.List.{length-append}
-use Rattle.std.specs.List.{flat_map, AllByRecursion as All}
+use Rattle.std.specs.List.{flat_map, AllByRecursion}
 use Rattle.fault.specs.declared.fault.Fault.{Fault}
 use Rattle.fields.specs.Field.{then}
 use Rattle.fields.specs.Items.{items_from}
@@ -19,7 +19,7 @@ module _ {A D : Type 0} (xs : List ℕ) (read : List ℕ → ℕ → Result (Ite
 
   pub record Elements (k a b : ℕ) (ds : List D) : Type 0 where
     pub count : length ds ≡ k
-    pub well : All Well ds
+    pub well : AllByRecursion Well ds
     pub stands : Stands xs a (flat_map bytes ds)
     pub ends : b ≡ a + length (flat_map bytes ds)
 
@@ -54,7 +54,7 @@ module _ {A D : Type 0} (xs : List ℕ) (read : List ℕ → ℕ → Result (Ite
   abbrev pub Reads : ℕ → List D → Type 0
   Reads a ds = (vs : List A) × (items_from read (length ds) xs a ≡ Ok (record { value = vs; next = a + length (flat_map bytes ds) })) × (map see vs ≡ ds)
 
-  pub items_read : ((a : ℕ) (d : D) → Well d → Stands xs a (bytes d) → Read a d) → (ds : List D) (a : ℕ) → All Well ds → Stands xs a (flat_map bytes ds) → Reads a ds
+  pub items_read : ((a : ℕ) (d : D) → Well d → Stands xs a (bytes d) → Read a d) → (ds : List D) (a : ℕ) → AllByRecursion Well ds → Stands xs a (flat_map bytes ds) → Reads a ds
   items_read one [] a w s = ([], ap (λ n. Ok (record { value = []; next = n })) (omega arith), refl)
   items_read one (d ∷ ds) a w s =
       let b = a + length (bytes d) in

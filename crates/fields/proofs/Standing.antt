@@ -2,7 +2,7 @@
 use Rattle.std.proofs.Common.{◌≡◌, ℕ, zero, suc, ◌+◌, ◌*◌, ◌/◌, ◌%◌, ◌^◌, ◌<◌, ◌≤◌, List, [], ◌∷◌, ◌++◌, length, get_or, drop, sym, refl, ap, ◌∙◌, subst, arith, lit<}
 use native.Mathlib.Nat.{div-div-eq-div-mul}
 use Rattle.std.proofs.lemmas.List.{append_assoc, append-nil, length-append, drop-drop, drop_at, drop_all, drop_more}
-use Rattle.std.specs.List.{AllByRecursion as All}
+use Rattle.std.specs.List.{AllByRecursion}
 use Rattle.fields.specs.Field.{half, word}
 use Rattle.fields.specs.Put.{half_bytes, word_bytes}
 
@@ -22,7 +22,7 @@ word_number n h =
     let top : n / 16777216 % 256 ≡ n / 16777216 = omega arith in
     omega arith
 
-pub octets : (xs : List ℕ) → All (λ b. b < 256) xs → Bytes xs
+pub octets : (xs : List ℕ) → AllByRecursion (λ b. b < 256) xs → Bytes xs
 octets [] w i = lit< tt
 octets (x ∷ xs) w zero = w.0
 octets (x ∷ xs) w (suc i) = octets xs w.1 i

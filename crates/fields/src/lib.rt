@@ -1,5 +1,7 @@
 //! The fields that boxes are made of: numbers at an offset, the header, the count, the end.
 
+#![tactic(auto)]
+
 mod header;
 mod item;
 mod reading;

@@ -1,6 +1,6 @@
 -- Worked cases: small layouts, and where some of their bits lie.
 use Rattle.std.specs.Prelude.{◌≡◌, ℕ, zero, suc, ◌-◌, Bool, true, false, List, [], ◌∷◌, length, Some, None, Ok, Option}
-use Rattle.std.specs.List.{AllByRecursion as All}
+use Rattle.std.specs.List.{AllByRecursion}
 use Rattle.choices.specs.declared.choice.Format.TheVariants.{Integer}
 use Rattle.choices.specs.declared.choice.Interleave.{Interleave}
 use Rattle.choices.specs.declared.choice.Interleave.TheVariants.{Component, Pixel, TileComponent, MultiY}
@@ -77,7 +77,7 @@ pub record Case : Type 0 where
 pub record Holds (c : Case) : Type 0 where
   pub kept : list_kept (typed c.types) c.listing (listed c.listing) c.width c.height ≡ Ok tt
   pub size : size_of (view_by (typed c.types) c.listing c.width c.height) ≡ c.size
-  pub bits : All (λ b. locate_answer (view_by (typed c.types) c.listing c.width c.height) b.place b.bit ≡ Ok (b.byte, b.number)) c.bits
+  pub bits : AllByRecursion (λ b. locate_answer (view_by (typed c.types) c.listing c.width c.height) b.place b.bit ≡ Ok (b.byte, b.number)) c.bits
 
 -- one pixel of R G B at depth 10 and A at depth 7 in a byte of its own
 abbrev pub narrow_alpha : Case
@@ -157,4 +157,4 @@ cases =
     ∷ twice TileComponent 4 ∷ []
 
 abbrev pub Worked : Type 0
-Worked = All Holds cases
+Worked = AllByRecursion Holds cases

@@ -1,6 +1,8 @@
 //! Where every bit of a frame lies: from the two boxes of a lane, a width and a height to the byte and bit of every
 //! bit of every value.
 
+#![tactic(auto)]
+
 mod blocks;
 mod coordinates;
 mod find;

@@ -2,6 +2,8 @@
 //! docs/FORMAT.md and docs/REFUSALS.md have what they hold the library to. Where bits lie was worked out value by value,
 //! and the sizes of the largest frames by exact arithmetic, both apart from the library.
 
+#![tactic(auto)]
+
 #[cfg(test)]
 mod blocks;
 #[cfg(test)]

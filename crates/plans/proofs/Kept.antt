@@ -1,6 +1,6 @@
 -- What a list of entries that keeps the rules is known to be.
 use Rattle.std.proofs.Common.{◌≡◌, ℕ, zero, suc, ◌+◌, ◌*◌, ◌<◌, ◌≤◌, Bool, true, false, cond, not, ◌&&◌, ◌||◌, eqb, ltb, leb, ◌≢◌, List, [], ◌∷◌, ◌++◌, length, get_or, take, is_some, Ok, sym, refl, ap, ◌∙◌, inl, inr, arith}
-use Rattle.std.specs.List.{AllByRecursion as All}
+use Rattle.std.specs.List.{AllByRecursion}
 use Rattle.std.proofs.lemmas.List.{append-nil, append_assoc, get_or-take, length-take-le}
 use Rattle.std.proofs.ByRecursion.{All-get_or}
 use Rattle.std.proofs.lemmas.Bool.{and_parts, or_cases, or_left, or_right, eqb-true, eq-eqb, leb-true, ltb-true, not-true, both_ways}
@@ -42,7 +42,7 @@ lists_at c [] n l e = absurd (omega arith)
 lists_at c (x ∷ es) zero l e = or_left (eqb x.index c) (lists c es) (eq-eqb x.index c e)
 lists_at c (x ∷ es) (suc n) l e = or_right (eqb x.index c) (lists c es) (lists_at c es n (omega arith) e)
 
-pub each_all : (p : Entry → Bool) (es : List Entry) → each p es ≡ true → All (λ e. p e ≡ true) es
+pub each_all : (p : Entry → Bool) (es : List Entry) → each p es ≡ true → AllByRecursion (λ e. p e ≡ true) es
 each_all p [] h = tt
 each_all p (e ∷ es) h = let k = and_parts (p e) (each p es) h in (k.0, each_all p es k.1)
 

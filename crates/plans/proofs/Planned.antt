@@ -2,7 +2,7 @@
 use Rattle.std.proofs.Common.{◌≡◌, ℕ, zero, suc, ◌+◌, ◌*◌, ◌/◌, ◌<◌, ◌≤◌, Bool, true, false, cond, not, ◌&&◌, ◌||◌, eqb, leb, ◌≢◌, List, [], ◌∷◌, map, length, get_or, take, drop, sym, refl, ap, ◌∙◌, subst, inl, inr, div-one, arith, length-drop, length-take}
 use mathlib.Core.List.{map-map}
 use lib.ListN.{length-map}
-use Rattle.std.specs.List.{AllByRecursion as All}
+use Rattle.std.specs.List.{AllByRecursion}
 use Rattle.std.proofs.lemmas.List.{get_or-take, get_or-drop, get_or-map, take-map, drop-map}
 use Rattle.std.proofs.ByRecursion.{All-from_get_or, All-map, All-take, All-drop}
 use Rattle.std.proofs.lemmas.Bool.{and_parts, or_cases, eqb-true, eq-eqb, leb-true, not-true, both_ways, cases_order}
@@ -113,19 +113,19 @@ module _ (types : Types) (s : Sampling) (block : ℕ) (f : Flags) (z : Sizes) (e
   pub alone_count : (v : Interleave) → length (map (alone (view v)) (map entry es)) ≡ length es
   alone_count v = length-map (map entry es) (alone (view v)) ∙ length-map es entry
 
-  pub small : {v : Interleave} → Rules types s v block z es w h → All (Small (packing_for block f z)) (map entry es)
+  pub small : {v : Interleave} → Rules types s v block z es w h → AllByRecursion (Small (packing_for block f z)) (map entry es)
   small r =
       All-map (Small (packing_for block f z)) entry es
       (All-from_get_or (λ e. Small (packing_for block f z) (entry e)) es blank
       (λ n q. let k = r.held n q in record { some = omega arith; few = k.deep; align = k.align; in_block = k.in_block }))
 
-  holding : {v : Interleave} → Rules types s v block z es w h → All (λ e. Holds packing (cell_of e)) (map entry es)
+  holding : {v : Interleave} → Rules types s v block z es w h → AllByRecursion (λ e. Holds packing (cell_of e)) (map entry es)
   holding r =
       All-map (λ e. Holds packing (cell_of e)) entry es
       (All-from_get_or (λ e. Holds packing (cell_of (entry e))) es blank
       (λ n q. let k = r.held n q in record { some = omega arith; alone = λ _. k.in_word; in_block = k.in_block }))
 
-  together_fits : (xs : List Entry) → All (λ e. Holds packing (cell_of e)) xs
+  together_fits : (xs : List Entry) → AllByRecursion (λ e. Holds packing (cell_of e)) xs
       → (z.pixel_size ≢ 0 → run_bytes packing (map (λ t. t.cell) (map slot_of xs)) ≤ z.pixel_size)
       → CycleFits packing (map (λ t. t.cell) (map slot_of xs))
   together_fits xs a p =
@@ -164,7 +164,7 @@ module _ (types : Types) (s : Sampling) (block : ℕ) (f : Flags) (z : Sizes) (e
             leb-true (pixel_bytes block es) p (and_parts (whole_blocks block p) (leb (pixel_bytes block es) p) d).1
       ]
 
-  dry : (v : Interleave) → is_pixel v ≡ false → Rules types s v block z es w h → (xs : List Entry) → All (λ e. Holds packing (cell_of e)) xs
+  dry : (v : Interleave) → is_pixel v ≡ false → Rules types s v block z es w h → (xs : List Entry) → AllByRecursion (λ e. Holds packing (cell_of e)) xs
       → CycleFits packing (map (λ t. t.cell) (map slot_of xs))
   dry v q r xs a = together_fits xs a (λ n. absurd (n (no_pixel v q r)))
 

@@ -1,6 +1,6 @@
 -- What an accepted view is known to be.
 use Rattle.std.specs.Prelude.{◌≡◌, ℕ, ◌*◌, ◌<◌, ◌≤◌, length, get_or, slice_index_or}
-use Rattle.std.specs.List.{AllByRecursion as All}
+use Rattle.std.specs.List.{AllByRecursion}
 use Rattle.choices.specs.declared.choice.Interleave.TheVariants.{Mixed}
 use Rattle.placement.specs.Place.{home, wide, high, depth_of, PlanFits}
 use Rattle.plans.specs.Entries.{no_entry}
@@ -17,7 +17,7 @@ pub record Gridded (v : View) (e : Entry) : Type 0 where
 
 pub record Facts (v : View) : Type 0 where
   pub few : length v.entries ≤ 16
-  pub cells : All (Small v.packing) v.entries
+  pub cells : AllByRecursion (Small v.packing) v.entries
   pub block : v.packing.blocks.bytes.0 ≤ 8
   pub pixel : v.packing.pixel.0 ≤ 65535
   pub row : v.packing.row_align.0 ≤ 65536

@@ -1,6 +1,6 @@
 -- Bounds that keep the arithmetic of a line small.
 use Rattle.std.specs.Prelude.{ℕ, ◌*◌, ◌<◌, ◌≤◌, ◌≢◌, List, length}
-use Rattle.std.specs.List.{AllByRecursion as All}
+use Rattle.std.specs.List.{AllByRecursion}
 use Rattle.plans.specs.declared.entry.Entry.{Entry}
 use Rattle.plans.specs.declared.packing.Blocks.{Blocks}
 use Rattle.plans.specs.declared.packing.Packing.{Packing}
@@ -19,7 +19,7 @@ pub record Fitting (p : Packing) (cycle : List Entry) (count : ℕ) : Type 0 whe
   pub row : p.row_align.0 ≤ 65536
   pub short : length cycle ≤ 16
   pub times : count ≤ 32768
-  pub small : All (Small p) cycle
+  pub small : AllByRecursion (Small p) cycle
 
 -- what of that a line without blocks rests on
 pub record Narrow (e : Entry) : Type 0 where
@@ -28,7 +28,7 @@ pub record Narrow (e : Entry) : Type 0 where
 
 pub record Streams (cycle : List Entry) : Type 0 where
   pub short : length cycle ≤ 16
-  pub narrow : All Narrow cycle
+  pub narrow : AllByRecursion Narrow cycle
 
 -- and what of it a line in blocks rests on
 abbrev pub Within : Blocks → Entry → Type 0
@@ -37,4 +37,4 @@ Within b e = e.depth.0 ≤ 8 * b.bytes.0
 pub record InBlocks (b : Blocks) (cycle : List Entry) : Type 0 where
   pub small : b.bytes.0 ≤ 8
   pub short : length cycle ≤ 16
-  pub within : All (Within b) cycle
+  pub within : AllByRecursion (Within b) cycle

@@ -1,6 +1,8 @@
 //! Prints what the boxes of each lane say, and that they are the same bytes when they are written back; and of a lane's raw
 //! frame, that it is the same bytes read straight and through the lane's ring.
 
+#![tactic(auto)]
+
 mod arguments;
 mod failure;
 mod layout;

@@ -1,5 +1,7 @@
 //! The rules that a configuration keeps, before a frame can be laid out by it.
 
+#![tactic(auto)]
+
 mod entries;
 mod interleaving;
 mod packing;

@@ -1,6 +1,8 @@
 //! Tests of the rules that a configuration keeps: each from both sides of its edge, and which of two is answered.
 //! docs/REFUSALS.md has the rules that they hold the library to.
 
+#![tactic(auto)]
+
 #[cfg(test)]
 mod blocks;
 #[cfg(test)]

@@ -4,17 +4,17 @@ use Rattle.configuration.specs.Entries.{entry_at, blank}
 use Rattle.fields.proofs.Tables.{turn-stops, turn-goes, sofar_more, finished}
 use Rattle.configuration.proofs.entry.entries_of.Goals as goal
 
-pub returns-in-err-item : goal.returns-in-err-item
-returns-in-err-item c =
-    let t = turn-stops blank entry_at c.args.bytes.now c.args.count c.loop-i.i c.loop-i.next (take c.loop-i.i c.loop-i.value) _ (omega arith) (sym c.entry_at_lem.ensures ∙ c.in-err-item.was) in
+pub returns-in_err-item : goal.returns-in_err-item
+returns-in_err-item c =
+    let t = turn-stops blank entry_at c.args.bytes.now c.args.count c.loop-i.i c.loop-i.next (take c.loop-i.i c.loop-i.value) _ (omega arith) (sym c.entry_at.ensures ∙ c.in_err-item.was) in
     search rules
 
 pub loop-i-preserved : goal.loop-i-preserved
 loop-i-preserved c =
     let table = c.loop-i.value in
     let i = c.loop-i.i in
-    let item = c.in-ok-item.item in
-    let t = turn-goes blank entry_at c.args.bytes.now c.args.count i c.loop-i.next table item (omega arith) (omega arith) (sym c.entry_at_lem.ensures ∙ c.in-ok-item.was) in
+    let item = c.in_ok-item.item in
+    let t = turn-goes blank entry_at c.args.bytes.now c.args.count i c.loop-i.next table item (omega arith) (omega arith) (sym c.entry_at.ensures ∙ c.in_ok-item.was) in
     (sofar_more blank i table item.value (omega arith) c.loop-i.invariant.0 (length-set table i item.value), sym t ∙ c.loop-i.invariant.1)
 
 pub returns : goal.returns

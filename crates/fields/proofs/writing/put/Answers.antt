@@ -7,4 +7,4 @@ returns-then-bytes-out c =
     let o = c.args.out.now in
     let b = c.args.bytes.now in
     let at = c.args.at in
-    placed-put o b at (placed_from o b _ at (at + length b - at) c.copy-from-slice.ensures.after (omega arith)) (omega arith)
+    placed-put o b at (placed_from o b _ at (at + length b - at) c.copy_from_slice.ensures.after (omega arith)) (omega arith)

@@ -7,13 +7,13 @@ use Rattle.placement.specs.Line.{repeated}
 pub returns-then-s-eq0 : goal.returns-then-s-eq0
 returns-then-s-eq0 c =
     record {
-      is = end_empty (repeated c.args.count (map cell_of c.args.cycle.now)) c.turn-at-s.ensures.is c.if-s-eq0.true;
-      near = omega (arith, c.turn-at-s.ensures.low);
+      is = end_empty (repeated c.args.count (map cell_of c.args.cycle.now)) c.turn_at-s.ensures.is c.if-s-eq0.true;
+      near = omega (arith, c.turn_at-s.ensures.low);
     }
 
 pub returns-else-s-eq0 : goal.returns-else-s-eq0
 returns-else-s-eq0 c =
     record {
-      is = end_open (repeated c.args.count (map cell_of c.args.cycle.now)) c.turn-at-s.ensures.is c.if-s-eq0.false;
-      near = omega (arith, c.turn-at-s.ensures.low);
+      is = end_open (repeated c.args.count (map cell_of c.args.cycle.now)) c.turn_at-s.ensures.is c.if-s-eq0.false;
+      near = omega (arith, c.turn_at-s.ensures.low);
     }

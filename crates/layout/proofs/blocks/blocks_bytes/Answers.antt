@@ -4,6 +4,6 @@ use Rattle.layout.proofs.blocks.blocks_bytes.Goals as goal
 pub returns : goal.returns
 returns c =
     record {
-      is = ap (λ (x : ℕ). x * c.args.b.bytes.0) c.block-count.ensures.is;
-      near = omega (arith, mul-le-mul c.block-count.ensures.near c.requires.fits.small);
+      is = ap (λ (x : ℕ). x * c.args.b.bytes.0) c.block_count.ensures.is;
+      near = omega (arith, mul-le-mul c.block_count.ensures.near c.requires.fits.small);
     }

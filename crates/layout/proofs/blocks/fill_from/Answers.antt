@@ -4,8 +4,8 @@ use Rattle.layout.proofs.Entries.{within_at}
 use Rattle.layout.proofs.Rounds.{fill_in, fill_over, fill_end}
 use Rattle.layout.proofs.blocks.fill_from.Goals as goal
 
-pub overflow-add-filled : goal.overflow-add-filled
-overflow-add-filled c =
+pub overflow_add-filled : goal.overflow_add-filled
+overflow_add-filled c =
     record {
       fits = omega (
         arith,

@@ -18,14 +18,14 @@ leaps c =
     leap c.args.cycle.now c.min-lead.result (c.args.turn - c.min-lead.result) c.loop-n.n c.requires.fits.short (omega arith)
     c.rounds-first.ensures.is c.loop-n.invariant.2 c.rounds-s.ensures.is c.if-s-first.true
 
-pub overflow-sub-skipped : goal.overflow-sub-skipped
-overflow-sub-skipped c = (leaps (goal.at.overflow-sub-skipped c).Then-s-first).up
+pub overflow_sub-skipped : goal.overflow_sub-skipped
+overflow_sub-skipped c = (leaps (goal.at.overflow_sub-skipped c).Then-s-first).up
 
-pub overflow-mul-skipped : goal.overflow-mul-skipped
-overflow-mul-skipped c = record { fits = omega (arith, (leaps (goal.at.overflow-mul-skipped c).Then-s-first).low) }
+pub overflow_mul-skipped : goal.overflow_mul-skipped
+overflow_mul-skipped c = record { fits = omega (arith, (leaps (goal.at.overflow_mul-skipped c).Then-s-first).low) }
 
-pub overflow-add-on : goal.overflow-add-on
-overflow-add-on c = record { fits = omega (arith, (leaps (goal.at.overflow-add-on c).Then-s-first).low) }
+pub overflow_add-on : goal.overflow_add-on
+overflow_add-on c = record { fits = omega (arith, (leaps (goal.at.overflow_add-on c).Then-s-first).low) }
 
 pub rounds-requires : goal.rounds-requires
 rounds-requires c =

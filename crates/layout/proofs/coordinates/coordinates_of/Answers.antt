@@ -7,34 +7,34 @@ use Rattle.plans.specs.Views.{plan_of, strips_by}
 use Rattle.layout.proofs.Finding.{first}
 use Rattle.layout.proofs.coordinates.coordinates_of.Goals as goal
 
-pub home-of-number-requires : goal.home-of-number-requires
-home-of-number-requires c =
+pub home_of-number-requires : goal.home_of-number-requires
+home_of-number-requires c =
     let v = view_of c.args.parts.now in
     record {
       held = c.requires.held;
       first = ap (λ (x : ℕ). position_with x v.entries) (first c.args.place.index v.entries c.args.position c.requires.first).is ∙ c.requires.first;
     }
 
-pub group-at-group-requires : goal.group-at-group-requires
-group-at-group-requires c =
+pub group_at-group-requires : goal.group_at-group-requires
+group_at-group-requires c =
     let v = view_of c.args.parts.now in
     record {
       held = c.requires.held;
       inside = omega (
         arith,
-        c.home-of-number.ensures,
+        c.home_of-number.ensures,
         ap (home (plan_of v)) (first c.args.place.index v.entries c.args.position c.requires.first).is,
         c.requires.valid.stored,
       );
     }
 
-pub coordinates-in-requires : goal.coordinates-in-requires
-coordinates-in-requires c =
+pub coordinates_in-requires : goal.coordinates_in-requires
+coordinates_in-requires c =
     let v = view_of c.args.parts.now in
-    let h = c.home-of-number.ensures ∙ ap (home (plan_of v)) (first c.args.place.index v.entries c.args.position c.requires.first).is in
+    let h = c.home_of-number.ensures ∙ ap (home (plan_of v)) (first c.args.place.index v.entries c.args.position c.requires.first).is in
     record {
       held = c.requires.held;
       number = h;
-      group = record { strip = c.group-at-group.ensures.strip ∙ ap (strip (plan_of v)) h; within = c.group-at-group.ensures.within };
+      group = record { strip = c.group_at-group.ensures.strip ∙ ap (strip (plan_of v)) h; within = c.group_at-group.ensures.within };
       valid = c.requires.valid;
     }

@@ -5,4 +5,4 @@ use Rattle.layout.proofs.coordinates.home_of.Goals as goal
 
 pub returns : goal.returns
 returns c =
-    c.group-number.ensures ∙ home_is (view_of c.args.parts.now) c.args.parts.now.interleave c.args.position refl c.requires.first
+    c.group_number.ensures ∙ home_is (view_of c.args.parts.now) c.args.parts.now.interleave c.args.position refl c.requires.first

@@ -5,8 +5,8 @@ use Rattle.layout.proofs.Finding.{times_hit, times_more, times_all}
 use Rattle.layout.proofs.find.occurrences.Goals as goal
 use Rattle.layout.proofs.find.occurrences.Goals.{then-cycle-i, else-cycle-i}
 
-pub overflow-add-count : goal.overflow-add-count
-overflow-add-count c = record { fits = omega (arith, c.loop-i.invariant.1, c.requires) }
+pub overflow_add-count : goal.overflow_add-count
+overflow_add-count c = record { fits = omega (arith, c.loop-i.invariant.1, c.requires) }
 
 pub loop-i-preserved : goal.loop-i-preserved
 loop-i-preserved c =

@@ -7,36 +7,36 @@ use Rattle.layout.proofs.Starting.{tiles_below, rows_below, three}
 use Rattle.layout.proofs.Summing.{groups_few}
 use Rattle.layout.proofs.starts.start_by_row.Goals as goal
 
-pub overflow-mul-result : goal.overflow-mul-result
-overflow-mul-result c = record { fits = omega (arith, tiles_below c.args.tile _ c.tile-by-row-each.result.0 _ c.requires.inside.tile c.tile-by-row-each.ensures.is c.requires.short) }
+pub overflow_mul-result : goal.overflow_mul-result
+overflow_mul-result c = record { fits = omega (arith, tiles_below c.args.tile _ c.tile_by_row-each.result.0 _ c.requires.inside.tile c.tile_by_row-each.ensures.is c.requires.short) }
 
-pub overflow-mul-result-2 : goal.overflow-mul-result-2
-overflow-mul-result-2 c =
+pub overflow_mul-result-2 : goal.overflow_mul-result-2
+overflow_mul-result-2 c =
     let few = groups_few (view_of c.args.parts.now) c.requires.held.facts c.args.parts.now.interleave in
-    record { fits = omega (arith, rows_below c.args.y c.lines-before-row.result.0 c.group-count.result c.requires.inside.low c.lines-before-row.ensures.near (omega (arith, c.group-count.ensures, few))) }
+    record { fits = omega (arith, rows_below c.args.y c.lines_before-row.result.0 c.group_count.result c.requires.inside.low c.lines_before-row.ensures.near (omega (arith, c.group_count.ensures, few))) }
 
-pub overflow-add-result : goal.overflow-add-result
-overflow-add-result c =
+pub overflow_add-result : goal.overflow_add-result
+overflow_add-result c =
     let few = groups_few (view_of c.args.parts.now) c.requires.held.facts c.args.parts.now.interleave in
     record {
       fits = omega (
         arith,
-        rows_below c.args.y c.lines-before-row.result.0 c.group-count.result c.requires.inside.low c.lines-before-row.ensures.near (omega (arith, c.group-count.ensures, few)),
-        c.lines-before-before.ensures.near,
+        rows_below c.args.y c.lines_before-row.result.0 c.group_count.result c.requires.inside.low c.lines_before-row.ensures.near (omega (arith, c.group_count.ensures, few)),
+        c.lines_before-before.ensures.near,
         c.requires.inside.group,
         few,
       );
     }
 
-pub overflow-add-result-2 : goal.overflow-add-result-2
-overflow-add-result-2 c =
+pub overflow_add-result-2 : goal.overflow_add-result-2
+overflow_add-result-2 c =
     let few = groups_few (view_of c.args.parts.now) c.requires.held.facts c.args.parts.now.interleave in
     record {
       fits = omega (
         arith,
-        tiles_below c.args.tile _ c.tile-by-row-each.result.0 _ c.requires.inside.tile c.tile-by-row-each.ensures.is c.requires.short,
-        rows_below c.args.y c.lines-before-row.result.0 c.group-count.result c.requires.inside.low c.lines-before-row.ensures.near (omega (arith, c.group-count.ensures, few)),
-        c.lines-before-before.ensures.near,
+        tiles_below c.args.tile _ c.tile_by_row-each.result.0 _ c.requires.inside.tile c.tile_by_row-each.ensures.is c.requires.short,
+        rows_below c.args.y c.lines_before-row.result.0 c.group_count.result c.requires.inside.low c.lines_before-row.ensures.near (omega (arith, c.group_count.ensures, few)),
+        c.lines_before-before.ensures.near,
         c.requires.inside.group,
         few,
       );
@@ -47,13 +47,13 @@ returns c =
     let few = groups_few (view_of c.args.parts.now) c.requires.held.facts c.args.parts.now.interleave in
     record {
       is =
-          three (λ (a b d : ℕ). c.args.tile * a + (c.args.y * b + d)) c.tile-by-row-each.ensures.is
-          (c.lines-before-row.ensures.is ∙ ap (summed (line (grid (plan_of (view_of c.args.parts.now))))) c.group-count.ensures) c.lines-before-before.ensures.is;
+          three (λ (a b d : ℕ). c.args.tile * a + (c.args.y * b + d)) c.tile_by_row-each.ensures.is
+          (c.lines_before-row.ensures.is ∙ ap (summed (line (grid (plan_of (view_of c.args.parts.now))))) c.group_count.ensures) c.lines_before-before.ensures.is;
       near = omega (
         arith,
-        tiles_below c.args.tile _ c.tile-by-row-each.result.0 _ c.requires.inside.tile c.tile-by-row-each.ensures.is c.requires.short,
-        rows_below c.args.y c.lines-before-row.result.0 c.group-count.result c.requires.inside.low c.lines-before-row.ensures.near (omega (arith, c.group-count.ensures, few)),
-        c.lines-before-before.ensures.near,
+        tiles_below c.args.tile _ c.tile_by_row-each.result.0 _ c.requires.inside.tile c.tile_by_row-each.ensures.is c.requires.short,
+        rows_below c.args.y c.lines_before-row.result.0 c.group_count.result c.requires.inside.low c.lines_before-row.ensures.near (omega (arith, c.group_count.ensures, few)),
+        c.lines_before-before.ensures.near,
         c.requires.inside.group,
         few,
       );

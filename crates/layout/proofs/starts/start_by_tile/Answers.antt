@@ -6,45 +6,45 @@ use Rattle.plans.specs.Views.{plan_of, strips_by}
 use Rattle.layout.proofs.Starting.{tiles_below, groups_below, three}
 use Rattle.layout.proofs.starts.start_by_tile.Goals as goal
 
-pub overflow-cast-result : goal.overflow-cast-result
-overflow-cast-result c =
+pub overflow_cast-result : goal.overflow_cast-result
+overflow_cast-result c =
     record {
       fits = omega (
         arith,
-        c.tiles-before-before.ensures.is,
+        c.tiles_before-before.ensures.is,
         groups_below (λ h. (grid (plan_of (view_of c.args.parts.now))).tiles * tile_of byTile (grid (plan_of (view_of c.args.parts.now))) h) c.args.g
             (length (strips_by c.args.parts.now.interleave (view_of c.args.parts.now))) c.requires.inside.group c.requires.short,
       );
     }
 
-pub overflow-mul-result : goal.overflow-mul-result
-overflow-mul-result c =
+pub overflow_mul-result : goal.overflow_mul-result
+overflow_mul-result c =
     let s = groups_below (λ h. (grid (plan_of (view_of c.args.parts.now))).tiles * tile_of byTile (grid (plan_of (view_of c.args.parts.now))) h) c.args.g
     (length (strips_by c.args.parts.now.interleave (view_of c.args.parts.now))) c.requires.inside.group c.requires.short in
-    record { fits = omega (arith, tiles_below c.args.tile _ c.tile-alone-each.result.0 _ c.requires.inside.tile c.tile-alone-each.ensures.is (omega (arith, s))) }
+    record { fits = omega (arith, tiles_below c.args.tile _ c.tile_alone-each.result.0 _ c.requires.inside.tile c.tile_alone-each.ensures.is (omega (arith, s))) }
 
-pub overflow-add-result : goal.overflow-add-result
-overflow-add-result c =
+pub overflow_add-result : goal.overflow_add-result
+overflow_add-result c =
     let s = groups_below (λ h. (grid (plan_of (view_of c.args.parts.now))).tiles * tile_of byTile (grid (plan_of (view_of c.args.parts.now))) h) c.args.g
     (length (strips_by c.args.parts.now.interleave (view_of c.args.parts.now))) c.requires.inside.group c.requires.short in
     record {
       fits = omega (
         arith,
-        tiles_below c.args.tile _ c.tile-alone-each.result.0 _ c.requires.inside.tile c.tile-alone-each.ensures.is (omega (arith, s)),
+        tiles_below c.args.tile _ c.tile_alone-each.result.0 _ c.requires.inside.tile c.tile_alone-each.ensures.is (omega (arith, s)),
         mul-le-mul c.requires.inside.low c.line-line.ensures.near,
       );
     }
 
-pub overflow-add-result-2 : goal.overflow-add-result-2
-overflow-add-result-2 c =
+pub overflow_add-result-2 : goal.overflow_add-result-2
+overflow_add-result-2 c =
     let s = groups_below (λ h. (grid (plan_of (view_of c.args.parts.now))).tiles * tile_of byTile (grid (plan_of (view_of c.args.parts.now))) h) c.args.g
     (length (strips_by c.args.parts.now.interleave (view_of c.args.parts.now))) c.requires.inside.group c.requires.short in
     record {
       fits = omega (
         arith,
-        c.tiles-before-before.ensures.is,
+        c.tiles_before-before.ensures.is,
         s,
-        tiles_below c.args.tile _ c.tile-alone-each.result.0 _ c.requires.inside.tile c.tile-alone-each.ensures.is (omega (arith, s)),
+        tiles_below c.args.tile _ c.tile_alone-each.result.0 _ c.requires.inside.tile c.tile_alone-each.ensures.is (omega (arith, s)),
         mul-le-mul c.requires.inside.low c.line-line.ensures.near,
       );
     }
@@ -54,12 +54,12 @@ returns c =
     let s = groups_below (λ h. (grid (plan_of (view_of c.args.parts.now))).tiles * tile_of byTile (grid (plan_of (view_of c.args.parts.now))) h) c.args.g
     (length (strips_by c.args.parts.now.interleave (view_of c.args.parts.now))) c.requires.inside.group c.requires.short in
     record {
-      is = three (λ (a b d : ℕ). a + (c.args.tile * b + c.args.y * d)) c.tiles-before-before.ensures.is c.tile-alone-each.ensures.is c.line-line.ensures.is;
+      is = three (λ (a b d : ℕ). a + (c.args.tile * b + c.args.y * d)) c.tiles_before-before.ensures.is c.tile_alone-each.ensures.is c.line-line.ensures.is;
       near = omega (
         arith,
-        c.tiles-before-before.ensures.is,
+        c.tiles_before-before.ensures.is,
         s,
-        tiles_below c.args.tile _ c.tile-alone-each.result.0 _ c.requires.inside.tile c.tile-alone-each.ensures.is (omega (arith, s)),
+        tiles_below c.args.tile _ c.tile_alone-each.result.0 _ c.requires.inside.tile c.tile_alone-each.ensures.is (omega (arith, s)),
         mul-le-mul c.requires.inside.low c.line-line.ensures.near,
       );
     }

@@ -8,6 +8,6 @@ none : (ss : List Strip) → length ss ≡ 0 → 0 ≡ (get_or ss 0 no_strip).ro
 none [] h = omega arith
 none (s ∷ ss) h = absurd (omega arith)
 
-pub returns-then-group-count-eq0 : goal.returns-then-group-count-eq0
-returns-then-group-count-eq0 c =
-    record { is = none (strips_by c.args.parts.now.interleave (view_of c.args.parts.now)) (omega (arith, c.group-count.ensures, c.if-group-count-eq0.true)); few = omega arith }
+pub returns-then-group_count-eq0 : goal.returns-then-group_count-eq0
+returns-then-group_count-eq0 c =
+    record { is = none (strips_by c.args.parts.now.interleave (view_of c.args.parts.now)) (omega (arith, c.group_count.ensures, c.if-group_count-eq0.true)); few = omega arith }

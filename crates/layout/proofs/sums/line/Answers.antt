@@ -7,19 +7,19 @@ use Rattle.plans.specs.declared.entry.Entry.{Entry}
 use Rattle.layout.proofs.Grouping.{by_strip, fitting}
 use Rattle.layout.proofs.sums.line.Goals as goal
 
-pub line-bytes-requires : goal.line-bytes-requires
-line-bytes-requires c =
+pub line_bytes-requires : goal.line_bytes-requires
+line_bytes-requires c =
     record {
-      fits = subst (λ (xs : List Entry). Fitting c.args.parts.now.packing xs c.group-at-group.result.count) (sym c.cycle.ensures)
-          (fitting (view_of c.args.parts.now) c.requires.held.facts c.group-at-group.result c.group-at-group.ensures.within);
+      fits = subst (λ (xs : List Entry). Fitting c.args.parts.now.packing xs c.group_at-group.result.count) (sym c.cycle.ensures)
+          (fitting (view_of c.args.parts.now) c.requires.held.facts c.group_at-group.result c.group_at-group.ensures.within);
     }
 
 pub returns : goal.returns
 returns c =
     record {
       is =
-          c.line-bytes.ensures.is
-          ∙ ap (λ (xs : List Entry). line_bytes (packing_of c.args.parts.now.packing) (map cell_of xs) c.group-at-group.result.count) c.cycle.ensures
-          ∙ by_strip (line_bytes (packing_of c.args.parts.now.packing)) (view_of c.args.parts.now) c.group-at-group.result c.args.g c.group-at-group.ensures.strip;
-      near = c.line-bytes.ensures.near;
+          c.line_bytes.ensures.is
+          ∙ ap (λ (xs : List Entry). line_bytes (packing_of c.args.parts.now.packing) (map cell_of xs) c.group_at-group.result.count) c.cycle.ensures
+          ∙ by_strip (line_bytes (packing_of c.args.parts.now.packing)) (view_of c.args.parts.now) c.group_at-group.result c.args.g c.group_at-group.ensures.strip;
+      near = c.line_bytes.ensures.near;
     }

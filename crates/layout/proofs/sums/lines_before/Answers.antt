@@ -6,8 +6,8 @@ use Rattle.plans.specs.Views.{plan_of}
 use Rattle.layout.proofs.Summing.{groups_few, sum_more}
 use Rattle.layout.proofs.sums.lines_before.Goals as goal
 
-pub overflow-add-sum : goal.overflow-add-sum
-overflow-add-sum c =
+pub overflow_add-sum : goal.overflow_add-sum
+overflow_add-sum c =
     record {
       fits = omega (arith, c.loop-h.invariant.1, c.line-sum.ensures.near, groups_few (view_of c.args.parts.now) c.requires.held.facts c.args.parts.now.interleave, c.requires.inside);
     }

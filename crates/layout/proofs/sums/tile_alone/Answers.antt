@@ -5,6 +5,6 @@ use Rattle.layout.proofs.sums.tile_alone.Goals as goal
 pub returns : goal.returns
 returns c =
     record {
-      is = c.up_to_lem.ensures.is ∙ ap (λ (x : ℕ). up_to x c.args.parts.now.packing.tile_align.0) c.area.ensures.is;
-      near = omega (arith, c.up_to_lem.ensures.near, c.area.ensures.near, c.requires.held.facts.tile);
+      is = c.up_to.ensures.is ∙ ap (λ (x : ℕ). up_to x c.args.parts.now.packing.tile_align.0) c.area.ensures.is;
+      near = omega (arith, c.up_to.ensures.near, c.area.ensures.near, c.requires.held.facts.tile);
     }

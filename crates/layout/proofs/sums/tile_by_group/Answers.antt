@@ -7,17 +7,17 @@ use Rattle.plans.specs.Views.{plan_of}
 use Rattle.layout.proofs.Summing.{groups_few}
 use Rattle.layout.proofs.sums.tile_by_group.Goals as goal
 
-pub up-to-requires : goal.up-to-requires
-up-to-requires c =
+pub up_to-requires : goal.up_to-requires
+up_to-requires c =
     let few = groups_few (view_of c.args.parts.now) c.requires.held.facts c.args.parts.now.interleave in
-    record { low = omega (arith, c.areas-before.ensures.near, c.group-count-groups.ensures, few); small = omega (arith, c.requires.held.facts.tile) }
+    record { low = omega (arith, c.areas_before.ensures.near, c.group_count-groups.ensures, few); small = omega (arith, c.requires.held.facts.tile) }
 
 pub returns : goal.returns
 returns c =
     let few = groups_few (view_of c.args.parts.now) c.requires.held.facts c.args.parts.now.interleave in
     record {
       is =
-          c.up_to_lem.ensures.is ∙ ap (λ (x : ℕ). up_to x c.args.parts.now.packing.tile_align.0)
-          (c.areas-before.ensures.is ∙ ap (summed (area (grid (plan_of (view_of c.args.parts.now))))) c.group-count-groups.ensures);
-      near = omega (arith, c.up_to_lem.ensures.near, c.areas-before.ensures.near, c.group-count-groups.ensures, few, c.requires.held.facts.tile);
+          c.up_to.ensures.is ∙ ap (λ (x : ℕ). up_to x c.args.parts.now.packing.tile_align.0)
+          (c.areas_before.ensures.is ∙ ap (summed (area (grid (plan_of (view_of c.args.parts.now))))) c.group_count-groups.ensures);
+      near = omega (arith, c.up_to.ensures.near, c.areas_before.ensures.near, c.group_count-groups.ensures, few, c.requires.held.facts.tile);
     }

@@ -13,16 +13,16 @@ product rows each g a b c =
     let l : each ≤ 2 ^ 37 = omega arith in
     omega (arith, mul-le-mul a l)
 
-pub overflow-mul-rows : goal.overflow-mul-rows
-overflow-mul-rows c =
+pub overflow_mul-rows : goal.overflow_mul-rows
+overflow_mul-rows c =
     let few = groups_few (view_of c.args.parts.now) c.requires.held.facts c.args.parts.now.interleave in
-    record { fits = omega (arith, product c.first-rows-rows.result c.lines-before-each.result.0 c.group-count.result c.first-rows-rows.ensures.few c.lines-before-each.ensures.near (omega (arith, c.group-count.ensures, few))) }
+    record { fits = omega (arith, product c.first_rows-rows.result c.lines_before-each.result.0 c.group_count.result c.first_rows-rows.ensures.few c.lines_before-each.ensures.near (omega (arith, c.group_count.ensures, few))) }
 
-pub up-to-requires : goal.up-to-requires
-up-to-requires c =
+pub up_to-requires : goal.up_to-requires
+up_to-requires c =
     let few = groups_few (view_of c.args.parts.now) c.requires.held.facts c.args.parts.now.interleave in
     record {
-      low = omega (arith, product c.first-rows-rows.result c.lines-before-each.result.0 c.group-count.result c.first-rows-rows.ensures.few c.lines-before-each.ensures.near (omega (arith, c.group-count.ensures, few)));
+      low = omega (arith, product c.first_rows-rows.result c.lines_before-each.result.0 c.group_count.result c.first_rows-rows.ensures.few c.lines_before-each.ensures.near (omega (arith, c.group_count.ensures, few)));
       small = omega (arith, c.requires.held.facts.tile);
     }
 
@@ -31,14 +31,14 @@ returns c =
     let few = groups_few (view_of c.args.parts.now) c.requires.held.facts c.args.parts.now.interleave in
     record {
       is =
-          c.up_to_lem.ensures.is
-          ∙ ap (λ (x : ℕ). up_to (x * c.lines-before-each.result.0) c.args.parts.now.packing.tile_align.0) c.first-rows-rows.ensures.is
+          c.up_to.ensures.is
+          ∙ ap (λ (x : ℕ). up_to (x * c.lines_before-each.result.0) c.args.parts.now.packing.tile_align.0) c.first_rows-rows.ensures.is
           ∙ ap (λ (x : ℕ). up_to (((grid (plan_of (view_of c.args.parts.now))).group 0).rows * x) c.args.parts.now.packing.tile_align.0)
-          (c.lines-before-each.ensures.is ∙ ap (summed (line (grid (plan_of (view_of c.args.parts.now))))) c.group-count.ensures);
+          (c.lines_before-each.ensures.is ∙ ap (summed (line (grid (plan_of (view_of c.args.parts.now))))) c.group_count.ensures);
       near = omega (
         arith,
-        c.up_to_lem.ensures.near,
+        c.up_to.ensures.near,
         c.requires.held.facts.tile,
-        product c.first-rows-rows.result c.lines-before-each.result.0 c.group-count.result c.first-rows-rows.ensures.few c.lines-before-each.ensures.near (omega (arith, c.group-count.ensures, few)),
+        product c.first_rows-rows.result c.lines_before-each.result.0 c.group_count.result c.first_rows-rows.ensures.few c.lines_before-each.ensures.near (omega (arith, c.group_count.ensures, few)),
       );
     }

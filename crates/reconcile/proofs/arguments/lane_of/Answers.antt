@@ -3,8 +3,8 @@ use Rattle.std.proofs.Common.{[], string_bytes, rules}
 use Rattle.std.proofs.lemmas.List.{length-map, get_or-map}
 use Rattle.reconcile.proofs.arguments.lane_of.Goals as goal
 
-pub returns-in-ok-frame-of : goal.returns-in-ok-frame-of
-returns-in-ok-frame-of c =
+pub returns-in_ok-frame_of : goal.returns-in_ok-frame_of
+returns-in_ok-frame_of c =
     let words = c.args.words.now in
     search (
       rules,
@@ -12,8 +12,8 @@ returns-in-ok-frame-of c =
       get_or-map string_bytes words 2 c.configuration-item.result [] (search rules),
     )
 
-pub returns-in-ok-frame-of-2 : goal.returns-in-ok-frame-of-2
-returns-in-ok-frame-of-2 c =
+pub returns-in_ok-frame_of-2 : goal.returns-in_ok-frame_of-2
+returns-in_ok-frame_of-2 c =
     let words = c.args.words.now in
     search (
       rules,

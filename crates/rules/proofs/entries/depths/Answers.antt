@@ -8,14 +8,14 @@ use Rattle.rules.proofs.entries.depths.Goals as goal
 pub loop-i-preserved : goal.loop-i-preserved
 loop-i-preserved c =
     let keeps = deep (type_of c.args.boxes.now) in
-    sym (goes_on keeps Depth c.args.entries.now c.loop-i.i (omega arith) (sym c.if-not-is-deep.ensures)) ∙ c.loop-i.invariant
+    sym (goes_on keeps Depth c.args.entries.now c.loop-i.i (omega arith) (sym c.if-not-is_deep.ensures)) ∙ c.loop-i.invariant
 
 pub returns : goal.returns
 returns c =
     let keeps = deep (type_of c.args.boxes.now) in
     sym (done keeps Depth c.args.entries.now c.loop-i.i (omega arith)) ∙ c.loop-i.invariant
 
-pub returns-then-not-is-deep : goal.returns-then-not-is-deep
-returns-then-not-is-deep c =
+pub returns-then-not-is_deep : goal.returns-then-not-is_deep
+returns-then-not-is_deep c =
     let keeps = deep (type_of c.args.boxes.now) in
-    ap Err c.refused-at.ensures ∙ sym (stops keeps Depth c.args.entries.now c.loop-i.i (omega arith) (sym c.if-not-is-deep.ensures)) ∙ c.loop-i.invariant
+    ap Err c.refused_at.ensures ∙ sym (stops keeps Depth c.args.entries.now c.loop-i.i (omega arith) (sym c.if-not-is_deep.ensures)) ∙ c.loop-i.invariant

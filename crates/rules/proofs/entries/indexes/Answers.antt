@@ -8,14 +8,14 @@ use Rattle.rules.proofs.entries.indexes.Goals as goal
 pub loop-i-preserved : goal.loop-i-preserved
 loop-i-preserved c =
     let keeps = indexed (type_of c.args.boxes.now) c.args.interleave in
-    sym (goes_on keeps Index c.args.entries.now c.loop-i.i (omega arith) (sym c.if-not-is-indexed.ensures)) ∙ c.loop-i.invariant
+    sym (goes_on keeps Index c.args.entries.now c.loop-i.i (omega arith) (sym c.if-not-is_indexed.ensures)) ∙ c.loop-i.invariant
 
 pub returns : goal.returns
 returns c =
     let keeps = indexed (type_of c.args.boxes.now) c.args.interleave in
     sym (done keeps Index c.args.entries.now c.loop-i.i (omega arith)) ∙ c.loop-i.invariant
 
-pub returns-then-not-is-indexed : goal.returns-then-not-is-indexed
-returns-then-not-is-indexed c =
+pub returns-then-not-is_indexed : goal.returns-then-not-is_indexed
+returns-then-not-is_indexed c =
     let keeps = indexed (type_of c.args.boxes.now) c.args.interleave in
-    ap Err c.refused-at.ensures ∙ sym (stops keeps Index c.args.entries.now c.loop-i.i (omega arith) (sym c.if-not-is-indexed.ensures)) ∙ c.loop-i.invariant
+    ap Err c.refused_at.ensures ∙ sym (stops keeps Index c.args.entries.now c.loop-i.i (omega arith) (sym c.if-not-is_indexed.ensures)) ∙ c.loop-i.invariant

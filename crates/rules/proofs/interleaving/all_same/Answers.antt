@@ -6,10 +6,10 @@ use Rattle.rules.specs.Interleaving.{same_of, is_yuv, alike}
 use Rattle.rules.proofs.interleaving.all_same.Goals as goal
 
 pub loop-i-preserved : goal.loop-i-preserved
-loop-i-preserved c = sym (holds_on (λ e. each (same_of (type_of c.args.boxes.now) c.args.number e) c.args.entries.now) c.args.entries.now c.loop-i.i (omega arith) (sym c.if-not-all-same-as.ensures)) ∙ c.loop-i.invariant
+loop-i-preserved c = sym (holds_on (λ e. each (same_of (type_of c.args.boxes.now) c.args.number e) c.args.entries.now) c.args.entries.now c.loop-i.i (omega arith) (sym c.if-not-all_same_as.ensures)) ∙ c.loop-i.invariant
 
-pub returns-then-not-all-same-as : goal.returns-then-not-all-same-as
-returns-then-not-all-same-as c = sym (fails (λ e. each (same_of (type_of c.args.boxes.now) c.args.number e) c.args.entries.now) c.args.entries.now c.loop-i.i (omega arith) (sym c.if-not-all-same-as.ensures)) ∙ c.loop-i.invariant
+pub returns-then-not-all_same_as : goal.returns-then-not-all_same_as
+returns-then-not-all_same_as c = sym (fails (λ e. each (same_of (type_of c.args.boxes.now) c.args.number e) c.args.entries.now) c.args.entries.now c.loop-i.i (omega arith) (sym c.if-not-all_same_as.ensures)) ∙ c.loop-i.invariant
 
 pub returns : goal.returns
 returns c = sym (holds (λ e. each (same_of (type_of c.args.boxes.now) c.args.number e) c.args.entries.now) c.args.entries.now c.loop-i.i (omega arith)) ∙ c.loop-i.invariant

@@ -6,10 +6,10 @@ use Rattle.rules.specs.Interleaving.{same_of, is_yuv, alike}
 use Rattle.rules.proofs.interleaving.all_same_as.Goals as goal
 
 pub loop-i-preserved : goal.loop-i-preserved
-loop-i-preserved c = sym (holds_on (same_of (type_of c.args.boxes.now) c.args.number c.args.a.now) c.args.entries.now c.loop-i.i (omega arith) (sym c.if-not-is-same.ensures)) ∙ c.loop-i.invariant
+loop-i-preserved c = sym (holds_on (same_of (type_of c.args.boxes.now) c.args.number c.args.a.now) c.args.entries.now c.loop-i.i (omega arith) (sym c.if-not-is_same.ensures)) ∙ c.loop-i.invariant
 
-pub returns-then-not-is-same : goal.returns-then-not-is-same
-returns-then-not-is-same c = sym (fails (same_of (type_of c.args.boxes.now) c.args.number c.args.a.now) c.args.entries.now c.loop-i.i (omega arith) (sym c.if-not-is-same.ensures)) ∙ c.loop-i.invariant
+pub returns-then-not-is_same : goal.returns-then-not-is_same
+returns-then-not-is_same c = sym (fails (same_of (type_of c.args.boxes.now) c.args.number c.args.a.now) c.args.entries.now c.loop-i.i (omega arith) (sym c.if-not-is_same.ensures)) ∙ c.loop-i.invariant
 
 pub returns : goal.returns
 returns c = sym (holds (same_of (type_of c.args.boxes.now) c.args.number c.args.a.now) c.args.entries.now c.loop-i.i (omega arith)) ∙ c.loop-i.invariant

@@ -6,10 +6,10 @@ use Rattle.rules.specs.Interleaving.{same_of, is_yuv, alike}
 use Rattle.rules.proofs.interleaving.all_yuv.Goals as goal
 
 pub loop-i-preserved : goal.loop-i-preserved
-loop-i-preserved c = sym (holds_on (is_yuv (type_of c.args.boxes.now)) c.args.entries.now c.loop-i.i (omega arith) (sym c.if-not-is-yuv.ensures)) ∙ c.loop-i.invariant
+loop-i-preserved c = sym (holds_on (is_yuv (type_of c.args.boxes.now)) c.args.entries.now c.loop-i.i (omega arith) (sym c.if-not-is_yuv.ensures)) ∙ c.loop-i.invariant
 
-pub returns-then-not-is-yuv : goal.returns-then-not-is-yuv
-returns-then-not-is-yuv c = sym (fails (is_yuv (type_of c.args.boxes.now)) c.args.entries.now c.loop-i.i (omega arith) (sym c.if-not-is-yuv.ensures)) ∙ c.loop-i.invariant
+pub returns-then-not-is_yuv : goal.returns-then-not-is_yuv
+returns-then-not-is_yuv c = sym (fails (is_yuv (type_of c.args.boxes.now)) c.args.entries.now c.loop-i.i (omega arith) (sym c.if-not-is_yuv.ensures)) ∙ c.loop-i.invariant
 
 pub returns : goal.returns
 returns c = sym (holds (is_yuv (type_of c.args.boxes.now)) c.args.entries.now c.loop-i.i (omega arith)) ∙ c.loop-i.invariant

@@ -9,7 +9,7 @@ loop-i-preserved c =
     let es = c.args.entries.now in
     let i = c.loop-i.i in
     let next = c.loop-i.next in (
-      ap (λ p. bits_after p (drop (i + 1) es)) c.next-bit-next.ensures.is ∙ sym (at_drop_more (bits_after next) es i blank (omega arith)) ∙ c.loop-i.invariant.0,
+      ap (λ p. bits_after p (drop (i + 1) es)) c.next_bit-next.ensures.is ∙ sym (at_drop_more (bits_after next) es i blank (omega arith)) ∙ c.loop-i.invariant.0,
       omega arith,
     )
 

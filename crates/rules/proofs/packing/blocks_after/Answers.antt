@@ -10,7 +10,7 @@ loop-i-preserved c =
     let i = c.loop-i.i in
     let f = c.loop-i.filling in
     let b = c.args.block in (
-      ap (λ z. blocks_after b z (drop (i + 1) es)) (c.filled-by-filling.ensures.is ∙ ap (filled b f) c.depth.ensures) ∙ sym (at_drop_more (blocks_after b f) es i blank (omega arith)) ∙ c.loop-i.invariant.0,
+      ap (λ z. blocks_after b z (drop (i + 1) es)) (c.filled_by-filling.ensures.is ∙ ap (filled b f) c.depth.ensures) ∙ sym (at_drop_more (blocks_after b f) es i blank (omega arith)) ∙ c.loop-i.invariant.0,
       omega arith,
       omega arith,
     )

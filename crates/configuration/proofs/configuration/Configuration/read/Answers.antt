@@ -6,5 +6,5 @@ use Rattle.configuration.proofs.configuration.Configuration.read.Goals as goal
 pub returns : goal.returns
 returns c =
     let xs = c.args.bytes.now in
-    let e = c.read-configuration.ensures in
-    record { value = e; exact = subst (ConfigurationExact xs) (sym e) (configuration_exact xs (λ i. omega (arith, c.type-inv.bytes i))) }
+    let e = c.read_configuration.ensures in
+    record { value = e; exact = subst (ConfigurationExact xs) (sym e) (configuration_exact xs (λ i. omega (arith, c.type_inv.bytes i))) }

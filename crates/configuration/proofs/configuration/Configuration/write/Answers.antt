@@ -12,8 +12,8 @@ returns c =
     let o = c.args.out.now in
     let s = c.args.self.now in
     let n = c.size-size.ensures in
-    let p = box_placed o (configuration_body s) c.size-size.result uncc (put-placed o (word_bytes c.size-size.result ++ word_bytes uncc) 0 c.put-header.ensures (omega arith)) c.put-body.ensures (omega arith) (omega arith) in
-    let w = writes ConfigurationBox (configuration_bytes s) o c.size-size.result c.put-body.new.out n (omega arith) p in
+    let p = box_placed o (configuration_body s) c.size-size.result uncc (put-placed o (word_bytes c.size-size.result ++ word_bytes uncc) 0 c.put_header.ensures (omega arith)) c.put_body.ensures (omega arith) (omega arith) in
+    let w = writes ConfigurationBox (configuration_bytes s) o c.size-size.result c.put_body.new.out n (omega arith) p in
     record { answer = w.0; bytes = w.1; back = configuration_back s }
 
 pub returns-then-out-size : goal.returns-then-out-size

@@ -21,9 +21,9 @@ returns c =
     let w16 = word_bytes (length es) in
     let p = packing_bytes s.packing in
     let e8 = put-placed o v 8 c.put.ensures (omega arith) in
-    let e12 = then-put o v w12 8 12 e8 c.put-word.ensures refl (omega arith) in
-    let e16 = then-put o (v ++ w12) w16 8 16 e12 c.put-word-2.ensures refl (omega arith) in
-    let e20 = then-placed o (v ++ w12 ++ w16) js 8 20 e16 c.put-entries.ensures refl (omega arith) in
+    let e12 = then-put o v w12 8 12 e8 c.put_word.ensures refl (omega arith) in
+    let e16 = then-put o (v ++ w12) w16 8 16 e12 c.put_word-2.ensures refl (omega arith) in
+    let e20 = then-placed o (v ++ w12 ++ w16) js 8 20 e16 c.put_entries.ensures refl (omega arith) in
     let e24 = then-placed o (v ++ w12 ++ w16 ++ js) p 8 (20 + 5 * length es) e20 c.put-2.ensures (omega arith) (omega arith) in
     let k = length-append (v ++ w12 ++ w16 ++ js) p in
     then-placed o (v ++ w12 ++ w16 ++ js ++ p) (sizes_bytes s.sizes) 8 (24 + 5 * length es) e24 c.put-3.ensures (omega arith) (omega arith)

@@ -14,7 +14,7 @@ returns-in-Some c =
     let n = length_with_uri text self c.in-Some.span c.in-Some.is in
     let e = c.of-uri.ensures.value in
     let l = ap length e in
-    let first = put-placed o (half_bytes self.number) at c.put-half.ensures (omega arith) in
+    let first = put-placed o (half_bytes self.number) at c.put_half.ensures (omega arith) in
     let h = then-put o (half_bytes self.number) uri at (at + 2) first c.put.ensures (omega arith) (omega arith) in
     let z = then-put o (half_bytes self.number ++ uri) (0 ∷ []) at (at + 2 + length uri) h c.put-in-Some.ensures (omega arith) (omega arith) in
     record {
@@ -29,5 +29,5 @@ returns-in-None c =
     let l = ap length e in
     record {
       next = omega arith;
-      bytes = put-placed c.args.out.now (half_bytes self.number) c.args.at c.put-half.ensures (omega arith) ∙ ap (placed c.args.out.now c.args.at) (sym e);
+      bytes = put-placed c.args.out.now (half_bytes self.number) c.args.at c.put_half.ensures (omega arith) ∙ ap (placed c.args.out.now c.args.at) (sym e);
     }

@@ -7,19 +7,19 @@ use Rattle.definition.proofs.definition.Definition.read.Goals as goal
 pub returns : goal.returns
 returns c =
     let xs = c.args.bytes.now in
-    let e = sym c.read-components.ensures ∙ c.in-ok-components.was in
+    let e = sym c.read_components.ensures ∙ c.in_ok-components.was in
     record {
       components = search rules;
       text = search rules;
-      exact = subst (DefinitionExact xs) e (definition_exact xs (λ i. omega (arith, c.type-inv.bytes i)));
+      exact = subst (DefinitionExact xs) e (definition_exact xs (λ i. omega (arith, c.type_inv.bytes i)));
     }
 
-pub returns-in-err-components : goal.returns-in-err-components
-returns-in-err-components c =
+pub returns-in_err-components : goal.returns-in_err-components
+returns-in_err-components c =
     let xs = c.args.bytes.now in
-    let e : components_read c.from-residual.result ≡ read_definition xs = search rules in
+    let e : components_read c.from_residual.result ≡ read_definition xs = search rules in
     record {
       components = e;
       text = search rules;
-      exact = subst (DefinitionExact xs) (sym e) (definition_exact xs (λ i. omega (arith, c.type-inv.bytes i)));
+      exact = subst (DefinitionExact xs) (sym e) (definition_exact xs (λ i. omega (arith, c.type_inv.bytes i)));
     }

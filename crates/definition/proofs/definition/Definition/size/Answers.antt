@@ -4,8 +4,8 @@ use Rattle.definition.specs.Encoded.{described, described_bytes}
 use Rattle.definition.proofs.Describing.{firsts, length_firsts_more, firsts_all}
 use Rattle.definition.proofs.definition.Definition.size.Goals as goal
 
-pub overflow-add-size : goal.overflow-add-size
-overflow-add-size c = omega arith
+pub overflow_add-size : goal.overflow_add-size
+overflow_add-size c = omega arith
 
 pub loop-i-preserved : goal.loop-i-preserved
 loop-i-preserved c =

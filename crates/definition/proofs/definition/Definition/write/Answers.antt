@@ -28,8 +28,8 @@ returns c =
     let s = c.args.self.now in
     let ds = defines s in
     let d : map (described s.text.now) c.components-components.result.now ≡ ds = ap (map (described s.text.now)) c.components-components.ensures.value in
-    let p = whole o s.text.now c.components-components.result.now ds c.size-size.result c.put-header.ensures c.put-word.ensures c.put-components.ensures d c.size-size.ensures.is (omega arith) (omega arith) in
-    let w = writes DefinitionBox (definition_bytes ds) o c.size-size.result c.put-components.new.out c.size-size.ensures.is (omega arith) p in
+    let p = whole o s.text.now c.components-components.result.now ds c.size-size.result c.put_header.ensures c.put_word.ensures c.put_components.ensures d c.size-size.ensures.is (omega arith) (omega arith) in
+    let w = writes DefinitionBox (definition_bytes ds) o c.size-size.result c.put_components.new.out c.size-size.ensures.is (omega arith) p in
     record { answer = w.0; bytes = w.1; back = definition_back c.args.self.now.text.now c.args.self.now.components }
 
 pub returns-then-out-size : goal.returns-then-out-size

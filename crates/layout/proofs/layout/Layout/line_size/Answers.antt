@@ -9,5 +9,5 @@ line-requires c =
     let l = c.args.self.now in
     record {
       held = held l;
-      inside = omega (arith, c.group-number-number.ensures, strip_below (shown l) (shown l).interleave c.args.position (omega (arith, c.if-position-parts.false, l.counted)));
+      inside = omega (arith, c.group_number-number.ensures, strip_below (shown l) (shown l).interleave c.args.position (omega (arith, c.if-position-parts.false, l.counted)));
     }

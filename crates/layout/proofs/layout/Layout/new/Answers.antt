@@ -24,41 +24,41 @@ accepted : (b : Boxes) (w h : ℕ) (l : Listing) (p : Parts) → l ≡ listing_f
 accepted b w h l p e f few k =
     subst Accepted (sym (view b w h l p e f)) (accepted_by b w h (subst (λ (x : Listing). length (listed x) ≤ 16) e few) (sym k))
 
-pub frame-bytes-size-requires : goal.frame-bytes-size-requires
-frame-bytes-size-requires c =
+pub frame_bytes-size-requires : goal.frame_bytes-size-requires
+frame_bytes-size-requires c =
     record {
-      facts = facts_of (view_of c.parts-of-parts.result)
-          (accepted c.args.boxes.now c.args.width c.args.height c.listing-listing.result c.parts-of-parts.result c.listing-listing.ensures c.parts-of-parts.ensures.view
-          c.parts-of-parts.ensures.few c.in-ok-check.ensures);
-      counted = c.parts-of-parts.ensures.counted;
+      facts = facts_of (view_of c.parts_of-parts.result)
+          (accepted c.args.boxes.now c.args.width c.args.height c.listing-listing.result c.parts_of-parts.result c.listing-listing.ensures c.parts_of-parts.ensures.view
+          c.parts_of-parts.ensures.few c.in_ok-check.ensures);
+      counted = c.parts_of-parts.ensures.counted;
     }
 
 pub returns-then-size-gt-LARGEST : goal.returns-then-size-gt-LARGEST
 returns-then-size-gt-LARGEST c =
-    let v = view c.args.boxes.now c.args.width c.args.height c.listing-listing.result c.parts-of-parts.result c.listing-listing.ensures c.parts-of-parts.ensures.view in
+    let v = view c.args.boxes.now c.args.width c.args.height c.listing-listing.result c.parts_of-parts.result c.listing-listing.ensures c.parts_of-parts.ensures.view in
     record {
       view =
-          ap (λ (w : Fault). Err w) c.too-large.ensures
-          ∙ sym (too_large c.args.boxes.now c.args.width c.args.height (sym c.in-ok-check.ensures) (omega (arith, c.if-size-gt-LARGEST.true, c.frame-bytes-size.ensures, ap size_of v)));
+          ap (λ (w : Fault). Err w) c.too_large.ensures
+          ∙ sym (too_large c.args.boxes.now c.args.width c.args.height (sym c.in_ok-check.ensures) (omega (arith, c.if-size-gt-LARGEST.true, c.frame_bytes-size.ensures, ap size_of v)));
       apart = tt;
     }
 
-pub invariant-of-result : goal.invariant-of-result
-invariant-of-result c = (
-  ∣ accepted c.args.boxes.now c.args.width c.args.height c.listing-listing.result c.parts-of-parts.result c.listing-listing.ensures c.parts-of-parts.ensures.view
-      c.parts-of-parts.ensures.few c.in-ok-check.ensures ∣₁,
-  (c.parts-of-parts.ensures.counted, (c.frame-bytes-size.ensures, (c.if-size-gt-LARGEST.false, tt))),
+pub invariant_of-result : goal.invariant_of-result
+invariant_of-result c = (
+  ∣ accepted c.args.boxes.now c.args.width c.args.height c.listing-listing.result c.parts_of-parts.result c.listing-listing.ensures c.parts_of-parts.ensures.view
+      c.parts_of-parts.ensures.few c.in_ok-check.ensures ∣₁,
+  (c.parts_of-parts.ensures.counted, (c.frame_bytes-size.ensures, (c.if-size-gt-LARGEST.false, tt))),
 )
 
 pub returns : goal.returns
 returns c =
-    let v = view c.args.boxes.now c.args.width c.args.height c.listing-listing.result c.parts-of-parts.result c.listing-listing.ensures c.parts-of-parts.ensures.view in
+    let v = view c.args.boxes.now c.args.width c.args.height c.listing-listing.result c.parts_of-parts.result c.listing-listing.ensures c.parts_of-parts.ensures.view in
     record {
       view =
           ap (λ (x : View). Ok x) v
-          ∙ sym (small c.args.boxes.now c.args.width c.args.height (sym c.in-ok-check.ensures) (omega (arith, c.if-size-gt-LARGEST.false, c.frame-bytes-size.ensures, ap size_of v)));
-      apart = apart (view_of c.parts-of-parts.result)
-          (facts_of (view_of c.parts-of-parts.result)
-          (accepted c.args.boxes.now c.args.width c.args.height c.listing-listing.result c.parts-of-parts.result c.listing-listing.ensures c.parts-of-parts.ensures.view
-          c.parts-of-parts.ensures.few c.in-ok-check.ensures));
+          ∙ sym (small c.args.boxes.now c.args.width c.args.height (sym c.in_ok-check.ensures) (omega (arith, c.if-size-gt-LARGEST.false, c.frame_bytes-size.ensures, ap size_of v)));
+      apart = apart (view_of c.parts_of-parts.result)
+          (facts_of (view_of c.parts_of-parts.result)
+          (accepted c.args.boxes.now c.args.width c.args.height c.listing-listing.result c.parts_of-parts.result c.listing-listing.ensures c.parts_of-parts.ensures.view
+          c.parts_of-parts.ensures.few c.in_ok-check.ensures));
     }
