@@ -1,17 +1,11 @@
-use Rattle.std.proofs.Common.{◌≡◌, ℕ, zero, suc, ◌+◌, ◌-◌, ◌*◌, ◌/◌, ◌%◌, ◌^◌, ◌<◌, ◌≤◌, Bool, true, false, cond, eqb, ltb, leb, ◌≢◌, ◌⊎◌, List, [], ◌∷◌, ◌++◌, map, length, get_or, take, drop, sym, refl, ap, ◌∙◌, subst, inl, inr, append_assoc, append-nil, mod-lt, mul-le-mul, div-add-mod', arith}
-use lib.Arith.{digits_lt}
-use Rattle.std.specs.List.{AllByRecursion as All}
+use Rattle.std.proofs.Common.{◌≡◌, ℕ, zero, suc, ◌+◌, ◌-◌, ◌*◌, ◌<◌, ◌≤◌, Bool, true, false, cond, ltb, leb, ◌≢◌, ◌⊎◌, List, [], ◌∷◌, ◌++◌, length, sym, refl, ap, ◌∙◌, inl, inr, append_assoc, arith}
+use Rattle.std.specs.List.{AllByRecursion}
 use Rattle.std.proofs.ByRecursion.{All-append}
-use Rattle.std.proofs.lemmas.Nat.{div_below}
-use Rattle.std.proofs.lemmas.List.{length-map, get_or-map, at_drop_more, at_drop_all, take_more, take_all, take-append-le}
-use Rattle.std.proofs.lemmas.Bool.{cond-true, cond-false, le-leb, lt-leb, leb-true, ltb-true, ltb-false, cases_lt, cases_eq, eq-eqb, ne_eqb}
-use Rattle.placement.specs.Word.{Word}
-use Rattle.placement.specs.Pack.{Cell, nowhere, Blocks, blocked, blocks_end, block_word, block_of, held, total}
+use Rattle.std.proofs.lemmas.Bool.{leb-true, ltb-true, ltb-false, cases_lt, cases_eq}
+use Rattle.placement.specs.Pack.{Cell, Blocks, block_of, held}
 use Rattle.placement.specs.Line.{repeated}
 use Rattle.placement.specs.Steps.{block_after, held_after}
-use Rattle.placement.proofs.Stepping.{stepwise}
-use Rattle.placement.proofs.Cycles.{get_or-repeated, length-repeated}
-use Rattle.placement.specs.Turn.{block_at, held_at, rest, Turns}
+use Rattle.placement.specs.Turn.{block_at, held_at, Turns}
 
 pub repeated_add : {A : Type 0} (m n : ℕ) (xs : List A) → repeated (m + n) xs ≡ repeated m xs ++ repeated n xs
 repeated_add zero n xs = ap (λ (x : ℕ). repeated x xs) e
@@ -144,7 +138,7 @@ two_equal (suc m) f h = go (find f (f (suc m)) (suc m)) (λ g k. two_equal m g k
         let x = ih (λ i. squash (f (suc m)) (f i)) (λ i l. squash_below (f (suc m)) (f i) m (z i (omega arith)) (h i (omega arith)) (h (suc m) (omega arith))) in
         (x.0, x.1, x.2, omega (arith, x.3), squash_same (f (suc m)) (f x.0) (f x.1) (z x.0 (omega (arith, x.2, x.3))) (z x.1 (omega (arith, x.3))) x.4)
 
-held_fits : (b : Blocks) (es : List Cell) (o : ℕ) → All (λ e. e.depth ≤ 8 * b.bytes) es → o ≤ 8 * b.bytes → held_after b o es ≤ 8 * b.bytes
+held_fits : (b : Blocks) (es : List Cell) (o : ℕ) → AllByRecursion (λ e. e.depth ≤ 8 * b.bytes) es → o ≤ 8 * b.bytes → held_after b o es ≤ 8 * b.bytes
 held_fits b [] o a h = h
 held_fits b (e ∷ es) o a h = held_fits b es (held b o e.depth + e.depth) a.1 (go (leb (o + e.depth) (8 * b.bytes)) refl)
   where
@@ -152,11 +146,11 @@ held_fits b (e ∷ es) o a h = held_fits b es (held b o e.depth + e.depth) a.1 (
     go true q = leb-true _ _ q
     go false q = omega (arith, a.0)
 
-all_turns : (P : Cell → Type 0) (n : ℕ) (xs : List Cell) → All P xs → All P (repeated n xs)
+all_turns : (P : Cell → Type 0) (n : ℕ) (xs : List Cell) → AllByRecursion P xs → AllByRecursion P (repeated n xs)
 all_turns P zero xs a = tt
 all_turns P (suc n) xs a = All-append P xs (repeated n xs) a (all_turns P n xs a)
 
-comes_round : (b : Blocks) (cycle : List Cell) → b.bytes ≤ 8 → All (λ e. e.depth ≤ 8 * b.bytes) cycle
+comes_round : (b : Blocks) (cycle : List Cell) → b.bytes ≤ 8 → AllByRecursion (λ e. e.depth ≤ 8 * b.bytes) cycle
     → (n : ℕ) × (0 < n) × (n ≤ 65) × (held_at b cycle (64 + n) ≡ held_at b cycle 64)
 comes_round b cycle h a =
     let x = two_equal 65 (held_at b cycle) (λ i l. omega (arith, held_fits b (repeated i cycle) 0 (all_turns (λ e. e.depth ≤ 8 * b.bytes) i cycle a) (omega arith))) in

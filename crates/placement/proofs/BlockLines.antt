@@ -1,10 +1,10 @@
 -- Lines packed in blocks.
-use Rattle.std.proofs.Common.{◌≡◌, ℕ, zero, suc, ◌+◌, ◌-◌, ◌*◌, ◌/◌, ◌%◌, ◌<◌, ◌≤◌, Bool, true, false, cond, eqb, leb, ◌≢◌, ◌⊎◌, List, [], ◌∷◌, length, get_or, sym, refl, ap, ◌∙◌, subst, inl, inr, mul-le-mul_right, arith}
-use Rattle.std.proofs.lemmas.Bool.{leb-true, leb-false, eqb-false, eqb-true}
-use Rattle.std.specs.List.{AllByRecursion as All}
-use Rattle.placement.specs.Word.{Word, weight, byte_in, spot, Whole, Apart, Own}
-use Rattle.placement.specs.Pack.{Cell, nowhere, Blocks, total, block_of, held, low_in, block_word, blocked, blocks_end, Blockable, Sound, BlockedStands}
-use Rattle.placement.proofs.Words.{spot_of, spot_of_inj, spot_of_low, spot_of_high, weight_below, own}
+use Rattle.std.proofs.Common.{◌≡◌, ℕ, zero, suc, ◌+◌, ◌-◌, ◌*◌, ◌<◌, ◌≤◌, Bool, true, false, cond, eqb, leb, ◌≢◌, ◌⊎◌, List, [], ◌∷◌, length, get_or, sym, refl, ap, ◌∙◌, subst, inl, inr, mul-le-mul_right, arith}
+use Rattle.std.proofs.lemmas.Bool.{leb-true, leb-false, eqb-true}
+use Rattle.std.specs.List.{AllByRecursion}
+use Rattle.placement.specs.Word.{Word, weight, spot, Whole, Apart}
+use Rattle.placement.specs.Pack.{Cell, nowhere, Blocks, total, block_of, held, low_in, block_word, blocked, blocks_end, Blockable, BlockedStands}
+use Rattle.placement.proofs.Words.{spot_of, spot_of_inj, spot_of_low, spot_of_high, weight_below}
 use Rattle.placement.proofs.Lines.{sound}
 
 -- what an entry of d bits does to a block of o bits: it goes in, or opens the next
@@ -104,7 +104,7 @@ tail_behind b k o d k' o' t es w (opens g) h =
       place = elim h.place [ inl l ↦ inl (omega arith) | inr x ↦ inl (omega (arith, x.0)) ];
     }
 
-blocked_behind : (b : Blocks) (es : List Cell) (k o : ℕ) → All (Blockable b) es → (n : ℕ) → n < length (blocked b k o es)
+blocked_behind : (b : Blocks) (es : List Cell) (k o : ℕ) → AllByRecursion (Blockable b) es → (n : ℕ) → n < length (blocked b k o es)
     → Behind b k o (total b o es) (get_or (blocked b k o es) n nowhere)
 blocked_behind b [] k o a n h = absurd (omega arith)
 blocked_behind b (e ∷ es) k o a zero h =
@@ -179,7 +179,7 @@ head_apart b k o d k' o' t es v s f (goes_in g) u =
 head_apart b k o d k' o' t es v s f (opens g) u =
     block_apart b (k + 1) 0 (total b (0 + d) es) d v s (total_le b es (0 + d)) (total_fits b es (0 + d) (omega arith)) u
 
-blocked_apart : (b : Blocks) (es : List Cell) (k o : ℕ) → All (Blockable b) es → (n m : ℕ) → n < m → m < length (blocked b k o es)
+blocked_apart : (b : Blocks) (es : List Cell) (k o : ℕ) → AllByRecursion (Blockable b) es → (n m : ℕ) → n < m → m < length (blocked b k o es)
     → Apart (get_or (blocked b k o es) n nowhere) (get_or (blocked b k o es) m nowhere)
 blocked_apart b [] k o a n m l h = absurd (omega arith)
 blocked_apart b (e ∷ es) k o a n zero l h = absurd (omega arith)
@@ -197,7 +197,7 @@ block_of_ge b k o d = go (leb (o + d) (8 * b.bytes))
     go true = omega arith
     go false = omega arith
 
-ends_some : (b : Blocks) (es : List Cell) (k o : ℕ) → 0 < o → All (Blockable b) es → k < blocks_end b k o es
+ends_some : (b : Blocks) (es : List Cell) (k o : ℕ) → 0 < o → AllByRecursion (Blockable b) es → k < blocks_end b k o es
 ends_some b [] k o h a = go (eqb o 0) refl
   where
     go : (t : Bool) → eqb o 0 ≡ t → k < cond t k (k + 1)
@@ -206,7 +206,7 @@ ends_some b [] k o h a = go (eqb o 0) refl
 ends_some b (e ∷ es) k o h a =
     omega (arith, block_of_ge b k o e.depth, ends_some b es (block_of b k o e.depth) (held b o e.depth + e.depth) (omega (arith, a.0.some)) a.1)
 
-below_end : (b : Blocks) (es : List Cell) (k o : ℕ) → All (Blockable b) es → (n : ℕ) → n < length (blocked b k o es)
+below_end : (b : Blocks) (es : List Cell) (k o : ℕ) → AllByRecursion (Blockable b) es → (n : ℕ) → n < length (blocked b k o es)
     → (i : ℕ) → i < (get_or (blocked b k o es) n nowhere).depth
     → spot (get_or (blocked b k o es) n nowhere) i < 8 * (blocks_end b k o es * b.bytes)
 below_end b [] k o a n h i l = absurd (omega arith)

@@ -1,7 +1,7 @@
 -- Boxes of one size side by side, and boxes of several sizes one after another.
 use Rattle.std.proofs.Common.{◌≡◌, ℕ, zero, suc, ◌+◌, ◌-◌, ◌*◌, ◌/◌, ◌%◌, ◌<◌, ◌≤◌, Bool, true, false, cond, eqb, ◌≢◌, ◌⊎◌, sym, refl, ap, ◌∙◌, subst, inl, inr, mod-lt, div-add-mod', arith}
-use lib.Arith.{digits_lt, digits_div, digits_mod}
-use Rattle.std.proofs.lemmas.Bool.{cases_order, eqb-true, eqb-false}
+use lib.Arith.{digits_div, digits_mod}
+use Rattle.std.proofs.lemmas.Bool.{cases_order, eqb-false}
 use Rattle.placement.specs.Line.{up_to}
 use Rattle.placement.specs.Grid.{summed}
 

@@ -1,13 +1,13 @@
 -- Lines of a repeated cycle.
-use Rattle.std.proofs.Common.{◌≡◌, ℕ, zero, suc, ◌+◌, ◌-◌, ◌*◌, ◌/◌, ◌%◌, ◌<◌, ◌≤◌, Bool, true, false, cond, eqb, ◌≢◌, ◌⊎◌, List, [], ◌∷◌, ◌++◌, length, get_or, sym, refl, ap, ◌∙◌, subst, inl, inr, suc-mul, zero-mul, arith, length-append}
+use Rattle.std.proofs.Common.{◌≡◌, ℕ, zero, suc, ◌+◌, ◌*◌, ◌/◌, ◌<◌, Bool, true, false, cond, eqb, ◌≢◌, List, [], ◌∷◌, ◌++◌, length, get_or, sym, refl, ap, ◌∙◌, subst, zero-mul, arith, length-append}
 use lib.Arith.{digits_lt}
-use Rattle.std.specs.List.{AllByRecursion as All}
+use Rattle.std.specs.List.{AllByRecursion}
 use Rattle.std.proofs.ByRecursion.{All-weaker, All-append}
 use Rattle.std.proofs.lemmas.List.{get_or_append_left, get_or-append-add}
-use Rattle.std.proofs.lemmas.Bool.{cases_order, eqb-true, eqb-false}
+use Rattle.std.proofs.lemmas.Bool.{eqb-true, eqb-false}
 use Rattle.placement.specs.Word.{Word, Whole, spot}
-use Rattle.placement.specs.Pack.{Cell, nowhere, streamed, aligned, packed_word, after, packed, packed_end, Packable, Blocks, block_of, held, blocked, blocks_end, Blockable, Sound}
-use Rattle.placement.specs.Line.{up_to, Packing, run, run_bytes, Holds, repeated, moved, line_word, line_bytes, CycleFits, LineSound, LinesStand}
+use Rattle.placement.specs.Pack.{Cell, nowhere, streamed, aligned, after, packed, packed_end, Packable, Blocks, block_of, held, blocked, blocks_end, Blockable, Sound}
+use Rattle.placement.specs.Line.{Packing, run, run_bytes, Holds, repeated, moved, line_word, CycleFits, LinesStand}
 use Rattle.placement.proofs.Lines.{packed_stands}
 use Rattle.placement.proofs.BlockLines.{blocked_stands}
 use Rattle.placement.proofs.Boxes.{cell_apart, up_le}
@@ -36,7 +36,7 @@ blocked_depth b k o (e ∷ es) zero d h = refl
 blocked_depth b k o (e ∷ es) (suc n) d h = blocked_depth b (block_of b k o e.depth) (held b o e.depth + e.depth) es n d (omega arith)
 
 -- a run, in blocks or not
-pub run_sound : (p : Packing) (es : List Cell) → All (Holds p) es → Sound (run p es) (run_bytes p es)
+pub run_sound : (p : Packing) (es : List Cell) → AllByRecursion (Holds p) es → Sound (run p es) (run_bytes p es)
 run_sound p es a = go (eqb p.blocks.bytes 0) refl
   where
     go : (t : Bool) → eqb p.blocks.bytes 0 ≡ t
@@ -79,7 +79,7 @@ get_or-repeated (suc n) xs (suc r) c d h l =
     e : suc r * length xs + c ≡ length xs + (r * length xs + c)
     e = omega arith
 
-all_repeated : {A : Type 0} (P : A → Type 0) (n : ℕ) (xs : List A) → All P xs → All P (repeated n xs)
+all_repeated : {A : Type 0} (P : A → Type 0) (n : ℕ) (xs : List A) → AllByRecursion P xs → AllByRecursion P (repeated n xs)
 all_repeated P zero xs a = tt
 all_repeated P (suc n) xs a = All-append P xs (repeated n xs) a (all_repeated P n xs a)
 

@@ -1,7 +1,6 @@
-use Rattle.std.proofs.Common.{◌≡◌, ℕ, zero, suc, ◌+◌, ◌-◌, ◌*◌, ◌/◌, ◌%◌, ◌<◌, ◌≤◌, ◌≢◌, ◌⊎◌, sym, refl, ap, ◌∙◌, subst, inl, inr, add_assoc, arith}
+use Rattle.std.proofs.Common.{◌≡◌, ℕ, ◌+◌, ◌*◌, ◌<◌, sym, refl, ap, ◌∙◌, subst, arith}
 use lib.Arith.{digits_lt}
-use Rattle.placement.specs.Line.{up_to}
-use Rattle.placement.specs.Grid.{summed, Group, Order, byGroup, byRow, byTile, Grid, area, line, tile_of, start_of, start, frame_of, frame_bytes, Inside, EvenRows, GridSound, GridsStand}
+use Rattle.placement.specs.Grid.{summed, Order, byGroup, byRow, byTile, Grid, area, line, tile_of, start_of, frame_of, Inside, EvenRows, GridsStand}
 use Rattle.placement.proofs.Boxes.{cell_apart, box_below, box_apart, up_le}
 
 -- byte b of line y lies in its group's area

@@ -1,10 +1,10 @@
 -- From words in order to a sound line.
-use Rattle.std.proofs.Common.{◌≡◌, ℕ, zero, suc, ◌+◌, ◌-◌, ◌*◌, ◌/◌, ◌%◌, ◌<◌, ◌≤◌, Bool, true, false, cond, eqb, leb, ◌≢◌, ◌⊎◌, List, [], ◌∷◌, length, get_or, sym, refl, ap, ◌∙◌, subst, inl, inr, mul-le-mul_right, arith}
-use Rattle.std.proofs.lemmas.Bool.{cases_order, cases_Bool, leb-true, leb-false, eqb-true, eqb-false, cond-true, cond-false}
-use Rattle.std.specs.List.{AllByRecursion as All}
-use Rattle.placement.specs.Word.{Word, weight, byte_in, spot, Whole, Apart, Own}
-use Rattle.placement.specs.Pack.{Cell, nowhere, streamed, aligned, packed_word, after, packed, packed_end, Packable, Blocks, total, block_of, held, low_in, block_word, blocked, blocks_end, Blockable, Sound, PackedStands, BlockedStands}
-use Rattle.placement.proofs.Words.{spot_of, spot_of_inj, spot_of_low, spot_of_high, weight_below, own}
+use Rattle.std.proofs.Common.{◌≡◌, ℕ, zero, suc, ◌+◌, ◌*◌, ◌/◌, ◌<◌, ◌≤◌, Bool, true, false, cond, eqb, ◌⊎◌, List, [], ◌∷◌, length, get_or, sym, refl, ap, ◌∙◌, subst, inl, inr, arith}
+use Rattle.std.proofs.lemmas.Bool.{cases_order, eqb-false}
+use Rattle.std.specs.List.{AllByRecursion}
+use Rattle.placement.specs.Word.{Word, weight, spot, Whole, Apart}
+use Rattle.placement.specs.Pack.{Cell, nowhere, streamed, aligned, packed_word, after, packed, packed_end, Packable, Sound, PackedStands}
+use Rattle.placement.proofs.Words.{spot_of_low, spot_of_high, weight_below, own}
 
 -- each word whole, below the end, and apart from those behind it
 pub sound : (ws : List Word) (size : ℕ)
@@ -69,7 +69,7 @@ wider : (w : Word) (p q p' q' : ℕ) → Between w p q → p' ≤ p → q ≤ q'
 wider w p q p' q' b h g =
     record { whole = b.whole; from = λ i l. omega (arith, b.from i l); to = λ i l. omega (arith, b.to i l) }
 
-packed_between : (little : Bool) (es : List Cell) (p : ℕ) → All Packable es → (n : ℕ) → n < length (packed little p es)
+packed_between : (little : Bool) (es : List Cell) (p : ℕ) → AllByRecursion Packable es → (n : ℕ) → n < length (packed little p es)
     → Between (get_or (packed little p es) n nowhere) p (packed_end p es)
 packed_between little [] p a n h = absurd (omega arith)
 packed_between little (e ∷ es) p a zero h =
@@ -80,7 +80,7 @@ packed_between little (e ∷ es) p a (suc n) h =
 in_order : (w v : Word) (p q r : ℕ) → Between w p q → Between v q r → Apart w v
 in_order w v p q r b c i j hi hj e = omega (arith, b.to i hi, c.from j hj, e)
 
-packed_apart : (little : Bool) (es : List Cell) (p : ℕ) → All Packable es → (n m : ℕ) → n < m → m < length (packed little p es)
+packed_apart : (little : Bool) (es : List Cell) (p : ℕ) → AllByRecursion Packable es → (n m : ℕ) → n < m → m < length (packed little p es)
     → Apart (get_or (packed little p es) n nowhere) (get_or (packed little p es) m nowhere)
 packed_apart little [] p a n m l h = absurd (omega arith)
 packed_apart little (e ∷ es) p a n zero l h = absurd (omega arith)

@@ -1,17 +1,17 @@
 -- The places of a frame have bits of their own.
-use Rattle.std.proofs.Common.{◌≡◌, ℕ, zero, suc, ◌+◌, ◌-◌, ◌*◌, ◌/◌, ◌%◌, ◌<◌, ◌≤◌, Bool, true, false, cond, eqb, ◌≢◌, ◌⊎◌, List, [], ◌∷◌, ◌++◌, map, length, get_or, sym, refl, ap, ◌∙◌, subst, inl, inr, mod-lt, mul-zero, div-add-mod', zero-mul, arith}
+use Rattle.std.proofs.Common.{◌≡◌, ℕ, zero, suc, ◌+◌, ◌-◌, ◌*◌, ◌/◌, ◌%◌, ◌<◌, Bool, true, false, cond, eqb, List, [], ◌∷◌, length, get_or, sym, refl, ap, ◌∙◌, subst, mod-lt, mul-zero, div-add-mod', arith}
 use lib.Arith.{digits_lt}
 use lib.ListN.{length-map}
 use Rattle.std.proofs.ByRecursion.{All-get_or}
 use Rattle.std.proofs.lemmas.List.{get_or-map}
 use Rattle.std.proofs.lemmas.Nat.{div_below}
-use Rattle.std.proofs.lemmas.Bool.{cases_order, cases_eq, eqb-true, eqb-false}
-use Rattle.placement.specs.Word.{Word, Whole, spot}
-use Rattle.placement.specs.Pack.{Cell, nowhere}
-use Rattle.placement.specs.Line.{Packing, Holds, line_word, line_bytes, moved, CycleFits, LineSound}
-use Rattle.placement.specs.Grid.{Order, Grid, Group, start, frame_bytes, Inside, EvenRows, GridSound}
+use Rattle.std.proofs.lemmas.Bool.{eqb-true, eqb-false}
+use Rattle.placement.specs.Word.{Whole, spot}
+use Rattle.placement.specs.Pack.{Cell}
+use Rattle.placement.specs.Line.{Holds, line_word, line_bytes, LineSound}
+use Rattle.placement.specs.Grid.{start, frame_bytes, Inside, GridSound}
 use Rattle.placement.specs.declared.place.Place.{Place}
-use Rattle.placement.specs.Place.{Slot, Strip, Plan, no_slot, no_strip, times, nth, strip_with, strip, cells, line_of, grid, home, often, wide, high, depth_of, tile_at, line_at, turn_at, slot_at, word_of, Valid, Alike, PlanFits, PlanSound, PlansSound}
+use Rattle.placement.specs.Place.{Slot, Strip, Plan, no_slot, no_strip, times, nth, strip_with, strip, cells, grid, home, often, wide, high, depth_of, tile_at, line_at, turn_at, slot_at, word_of, Valid, PlanFits, PlansSound}
 use Rattle.placement.proofs.Boxes.{cell_apart}
 use Rattle.placement.proofs.Grids.{grids_stand}
 use Rattle.placement.proofs.Cycles.{lines_stand, spot-moved}

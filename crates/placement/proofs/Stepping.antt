@@ -1,5 +1,4 @@
-use Rattle.std.proofs.Common.{◌≡◌, ℕ, zero, suc, ◌+◌, ◌<◌, Bool, true, false, cond, ◌≢◌, ◌⊎◌, List, [], ◌∷◌, length, get_or, take, drop, sym, refl, ap, ◌∙◌, subst, inl, inr, add-one, arith}
-use Rattle.placement.specs.Word.{Word}
+use Rattle.std.proofs.Common.{◌≡◌, ℕ, zero, suc, ◌+◌, ◌<◌, Bool, List, [], ◌∷◌, length, get_or, take, drop, refl, add-one, arith}
 use Rattle.placement.specs.Pack.{Cell, nowhere, packed, packed_word, packed_end, after, Blocks, block_of, held, total, block_word, blocked}
 use Rattle.placement.specs.Steps.{block_after, held_after, Stepwise}
 

@@ -1,12 +1,11 @@
-use Rattle.std.proofs.Common.{◌≡◌, ℕ, zero, suc, ◌+◌, ◌-◌, ◌*◌, ◌/◌, ◌%◌, ◌<◌, ◌≤◌, Bool, true, false, cond, eqb, ◌≢◌, ◌⊎◌, List, [], ◌∷◌, ◌++◌, map, length, get_or, take, sym, refl, ap, ◌∙◌, subst, inl, inr, arith}
-use Rattle.std.proofs.lemmas.List.{get_or_append_left, get_or-append-add, take_more, get_or-map, length-map, take_all}
-use Rattle.std.proofs.lemmas.Bool.{cond-true, cond-false, ne_eqb}
+use Rattle.std.proofs.Common.{◌≡◌, ℕ, zero, suc, ◌+◌, ◌-◌, ◌*◌, ◌/◌, ◌%◌, ◌<◌, ◌≤◌, Bool, true, false, cond, eqb, List, [], ◌∷◌, ◌++◌, map, length, get_or, take, sym, refl, ap, ◌∙◌, arith}
+use Rattle.std.proofs.lemmas.List.{get_or_append_left, get_or-append-add, take_more}
+use Rattle.std.proofs.lemmas.Bool.{cond-false, ne_eqb}
 use Rattle.placement.specs.Word.{Word}
 use Rattle.placement.specs.Pack.{Cell, nowhere, streamed, aligned, packed_word, after, packed, packed_end}
 use Rattle.placement.specs.Line.{repeated, moved}
 use Rattle.placement.proofs.Cycles.{packed-length}
-use Rattle.placement.proofs.Stepping.{stepwise}
-use Rattle.placement.specs.Stride.{stride, begins, starts, Strides}
+use Rattle.placement.specs.Stride.{stride, starts, Strides}
 
 -- whole bytes
 after-moved : (p m : ℕ) (e : Cell) → after (p + 8 * m) e ≡ after p e + 8 * m

@@ -1,5 +1,5 @@
-use Rattle.std.proofs.Common.{◌≡◌, ℕ, ◌+◌, ◌-◌, ◌*◌, ◌/◌, ◌%◌, ◌<◌, ◌≤◌, Bool, true, false, cond, ◌≢◌, sym, refl, ap, ◌∙◌, subst, arith}
-use Rattle.placement.specs.Word.{Word, weight, byte_in, spot, Whole, Apart, Own, WordsStand}
+use Rattle.std.proofs.Common.{◌≡◌, ℕ, ◌+◌, ◌-◌, ◌*◌, ◌/◌, ◌%◌, ◌<◌, ◌≤◌, Bool, true, false, cond, arith}
+use Rattle.placement.specs.Word.{Word, weight, Whole, Own, WordsStand}
 
 -- the spot of a weight, over plain numbers
 abbrev pub spot_of : ℕ → ℕ → Bool → ℕ → ℕ

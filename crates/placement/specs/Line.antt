@@ -1,6 +1,6 @@
 -- A line: a cycle of entries, repeated, with what rounds it up.
-use Rattle.std.specs.Prelude.{◌≡◌, ℕ, zero, suc, ◌+◌, ◌-◌, ◌*◌, ◌/◌, ◌%◌, ◌<◌, ◌≤◌, Bool, true, false, cond, ◌≢◌, List, [], ◌∷◌, ◌++◌, length, get_or, ◌==◌, slice_index_or}
-use Rattle.std.specs.List.{AllByRecursion as All}
+use Rattle.std.specs.Prelude.{◌≡◌, ℕ, zero, suc, ◌+◌, ◌-◌, ◌*◌, ◌/◌, ◌<◌, ◌≤◌, Bool, cond, ◌≢◌, List, [], ◌++◌, length, get_or, ◌==◌, slice_index_or}
+use Rattle.std.specs.List.{AllByRecursion}
 use Rattle.placement.specs.Word.{Word, Whole, spot}
 use Rattle.placement.specs.Pack.{Cell, nowhere, packed, packed_end, Blocks, blocked, blocks_end}
 
@@ -45,7 +45,7 @@ abbrev pub line_bytes : Packing → List Cell → ℕ → ℕ
 line_bytes p cycle count = up_to (cond (p.pixel == 0) (run_bytes p (repeated count cycle)) (count * p.pixel)) p.row_align
 
 pub record CycleFits (p : Packing) (cycle : List Cell) : Type 0 where
-  pub held : All (Holds p) cycle
+  pub held : AllByRecursion (Holds p) cycle
   pub pixel : p.pixel ≢ 0 → run_bytes p cycle ≤ p.pixel
 
 pub record LineSound (p : Packing) (cycle : List Cell) (count : ℕ) : Type 0 where

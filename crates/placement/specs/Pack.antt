@@ -1,6 +1,6 @@
 -- How the values of a line are packed: a fold along the line gives each value its word.
-use Rattle.std.specs.Prelude.{◌≡◌, ℕ, ◌+◌, ◌-◌, ◌*◌, ◌/◌, ◌%◌, ◌<◌, ◌≤◌, Bool, true, false, cond, ◌≢◌, List, [], ◌∷◌, length, get_or, ◌==◌, nat_le, slice_index_or}
-use Rattle.std.specs.List.{AllByRecursion as All}
+use Rattle.std.specs.Prelude.{◌≡◌, ℕ, ◌+◌, ◌-◌, ◌*◌, ◌/◌, ◌<◌, ◌≤◌, Bool, false, cond, ◌≢◌, List, [], ◌∷◌, length, get_or, ◌==◌, nat_le, slice_index_or}
+use Rattle.std.specs.List.{AllByRecursion}
 use Rattle.placement.specs.Word.{Word, Whole, spot}
 
 -- a value of `depth` bits; `align` is 0, or the bytes of the word that it has to itself
@@ -90,7 +90,7 @@ pub record Sound (ws : List Word) (size : ℕ) : Type 0 where
       → spot (slice_index_or ws n nowhere) i ≡ spot (slice_index_or ws m nowhere) j → (n ≡ m) × (i ≡ j)
 
 abbrev pub PackedStands : Type 0
-PackedStands = (little : Bool) (es : List Cell) → All Packable es → Sound (packed little 0 es) ((packed_end 0 es + 7) / 8)
+PackedStands = (little : Bool) (es : List Cell) → AllByRecursion Packable es → Sound (packed little 0 es) ((packed_end 0 es + 7) / 8)
 
 abbrev pub BlockedStands : Type 0
-BlockedStands = (b : Blocks) (es : List Cell) → All (Blockable b) es → Sound (blocked b 0 0 es) (blocks_end b 0 0 es * b.bytes)
+BlockedStands = (b : Blocks) (es : List Cell) → AllByRecursion (Blockable b) es → Sound (blocked b 0 0 es) (blocks_end b 0 0 es * b.bytes)

@@ -4,7 +4,7 @@ use Rattle.placement.specs.declared.place.Place.{Place}
 use Rattle.placement.specs.Word.{Word, Whole, spot}
 use Rattle.placement.specs.Pack.{Cell}
 use Rattle.placement.specs.Line.{Packing, line_word, line_bytes, moved, CycleFits}
-use Rattle.placement.specs.Grid.{Order, Grid, Group, start, frame_bytes, EvenRows}
+use Rattle.placement.specs.Grid.{Order, Grid, start, frame_bytes, EvenRows}
 
 -- one value of a cycle: of which component, and how it is stored
 pub record Slot : Type 0 where

@@ -1,6 +1,5 @@
 -- The word of value n by what comes before it: what a loop along the line keeps.
-use Rattle.std.specs.Prelude.{◌≡◌, ℕ, ◌+◌, ◌<◌, Bool, true, false, cond, List, [], ◌∷◌, length, get_or, take, drop, slice_index_or}
-use Rattle.placement.specs.Word.{Word}
+use Rattle.std.specs.Prelude.{◌≡◌, ℕ, ◌+◌, ◌<◌, Bool, List, [], ◌∷◌, length, get_or, take, drop, slice_index_or}
 use Rattle.placement.specs.Pack.{Cell, nowhere, packed, packed_word, packed_end, Blocks, block_of, held, total, block_word, blocked}
 
 -- the block and its bits after some entries

@@ -1,6 +1,5 @@
 -- Without blocks: where a repetition of the cycle begins, by the bits of the first repetition and those of each later one.
-use Rattle.std.specs.Prelude.{◌≡◌, ℕ, zero, suc, ◌+◌, ◌-◌, ◌*◌, ◌/◌, ◌<◌, Bool, true, false, cond, List, [], ◌∷◌, map, length, ◌==◌, slice_index_or}
-use Rattle.placement.specs.Word.{Word}
+use Rattle.std.specs.Prelude.{◌≡◌, ℕ, ◌+◌, ◌-◌, ◌*◌, ◌<◌, Bool, cond, List, map, length, ◌==◌, slice_index_or}
 use Rattle.placement.specs.Pack.{Cell, nowhere, packed, packed_end}
 use Rattle.placement.specs.Line.{repeated, moved}
 

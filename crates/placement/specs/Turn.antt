@@ -1,8 +1,7 @@
 -- In blocks, at any depths: after a repetition of the cycle only the bits of the open block matter, so the repetitions come round again.
-use Rattle.std.specs.Prelude.{◌≡◌, ℕ, ◌+◌, ◌-◌, ◌*◌, ◌<◌, ◌≤◌, cond, List, [], ◌∷◌, length, nat_le}
-use Rattle.std.specs.List.{AllByRecursion as All}
-use Rattle.placement.specs.Word.{Word}
-use Rattle.placement.specs.Pack.{Cell, nowhere, Blocks, blocked, block_word, block_of, held, total}
+use Rattle.std.specs.Prelude.{◌≡◌, ℕ, ◌+◌, ◌-◌, ◌*◌, ◌<◌, ◌≤◌, cond, List, [], ◌∷◌, nat_le}
+use Rattle.std.specs.List.{AllByRecursion}
+use Rattle.placement.specs.Pack.{Cell, Blocks}
 use Rattle.placement.specs.Line.{repeated}
 use Rattle.placement.specs.Steps.{block_after, held_after}
 
@@ -19,7 +18,7 @@ pub record Turns : Type 0 where
   pub block_again : (b : Blocks) (cycle : List Cell) (i n m j : ℕ) → held_at b cycle (i + n) ≡ held_at b cycle i
       → block_at b cycle (i + m * n + j) ≡ block_at b cycle (i + j) + m * (block_at b cycle (i + n) - block_at b cycle i)
   -- within 64 repetitions the bits of the open block have come round, and again within 65 more
-  pub comes_round : (b : Blocks) (cycle : List Cell) → b.bytes ≤ 8 → All (λ e. e.depth ≤ 8 * b.bytes) cycle
+  pub comes_round : (b : Blocks) (cycle : List Cell) → b.bytes ≤ 8 → AllByRecursion (λ e. e.depth ≤ 8 * b.bytes) cycle
       → (n : ℕ) × (0 < n) × (n ≤ 65) × (held_at b cycle (64 + n) ≡ held_at b cycle 64)
 
 -- what does not go into the open block
