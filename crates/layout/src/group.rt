@@ -3,7 +3,7 @@ ghost use Rattle.std.specs.Prelude.{◌≡◌, ◌-◌, ◌^◌, ◌<◌, ◌≤
 ghost use Rattle.placement.specs.Place.{no_strip, strip};
 ghost use Rattle.layout.specs.Parts.{view_of, strip_in, Within, Held};
 ghost use Rattle.choices.specs.declared.choice.Interleave.TheVariants.{Mixed};
-ghost use Rattle.plans.specs.Views.{alone as aloneIn, together as togetherIn, tile_width, tile_height, strips_by, strip_at, plan_of};
+ghost use Rattle.plans.specs.Views.{alone as alone_in, together as together_in, tile_width, tile_height, strips_by, strip_at, plan_of};
 
 use crate::parts::Parts;
 use boxes::Interleave;
@@ -50,7 +50,7 @@ pub(crate) fn group_number(interleave: Interleave, position: usize) -> usize
 fn alone(parts: &Parts, position: usize) -> Group
     requires held { Held parts.now }
     requires listed { position < length (view_of parts.now).entries }
-    ensures strip { strip_in (view_of parts.now) result ≡ slice_index_or (map (aloneIn (view_of parts.now)) (view_of parts.now).entries) position no_strip }
+    ensures strip { strip_in (view_of parts.now) result ≡ slice_index_or (map (alone_in (view_of parts.now)) (view_of parts.now).entries) position no_strip }
     ensures within { Within (view_of parts.now) result }
 {
     let entry = parts.table[position];
@@ -66,7 +66,7 @@ fn alone(parts: &Parts, position: usize) -> Group
 fn together(parts: &Parts, count: u64, rows: u64) -> Group
     requires held { Held parts.now }
     requires few { (count ≤ 32768) × (rows ≤ 32768) }
-    ensures strip { strip_in (view_of parts.now) result ≡ togetherIn (view_of parts.now).entries count rows }
+    ensures strip { strip_in (view_of parts.now) result ≡ together_in (view_of parts.now).entries count rows }
     ensures within { Within (view_of parts.now) result }
 {
     Group {

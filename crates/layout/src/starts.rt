@@ -1,6 +1,6 @@
 // Where a line begins: after the tiles before its own, and in its tile after the lines before it.
 ghost use Rattle.std.specs.Prelude.{◌≡◌, ◌^◌, ◌<◌, ◌≤◌, length};
-ghost use Rattle.placement.specs.Grid.{byGroup, byRow, byTile, start_of, frame_of, start as start_in};
+ghost use Rattle.placement.specs.Grid.{by_group, by_row, by_tile, start_of, frame_of, start as start_in};
 ghost use Rattle.placement.specs.Place.{grid};
 ghost use Rattle.layout.specs.Parts.{view_of, Held};
 ghost use Rattle.layout.specs.Starting.{InTile};
@@ -18,8 +18,8 @@ use plans::Bytes;
 fn start_by_group(parts: &Parts, tile: u64, g: usize, y: u64) -> Bytes
     requires held { Held parts.now }
     requires inside { InTile (view_of parts.now) tile g y }
-    requires short { frame_of byGroup (grid (plan_of (view_of parts.now))) ≤ 4294967295 }
-    ensures is { result.0 ≡ start_of byGroup (grid (plan_of (view_of parts.now))) tile g y }
+    requires short { frame_of by_group (grid (plan_of (view_of parts.now))) ≤ 4294967295 }
+    ensures is { result.0 ≡ start_of by_group (grid (plan_of (view_of parts.now))) tile g y }
     ensures near { result.0 ≤ 2 ^ 60 }
 {
     let each = tile_by_group(parts);
@@ -32,8 +32,8 @@ fn start_by_group(parts: &Parts, tile: u64, g: usize, y: u64) -> Bytes
 fn start_by_row(parts: &Parts, tile: u64, g: usize, y: u64) -> Bytes
     requires held { Held parts.now }
     requires inside { InTile (view_of parts.now) tile g y }
-    requires short { frame_of byRow (grid (plan_of (view_of parts.now))) ≤ 4294967295 }
-    ensures is { result.0 ≡ start_of byRow (grid (plan_of (view_of parts.now))) tile g y }
+    requires short { frame_of by_row (grid (plan_of (view_of parts.now))) ≤ 4294967295 }
+    ensures is { result.0 ≡ start_of by_row (grid (plan_of (view_of parts.now))) tile g y }
     ensures near { result.0 ≤ 2 ^ 60 }
 {
     let each = tile_by_row(parts);
@@ -46,8 +46,8 @@ fn start_by_row(parts: &Parts, tile: u64, g: usize, y: u64) -> Bytes
 fn start_by_tile(parts: &Parts, tile: u64, g: usize, y: u64) -> Bytes
     requires held { Held parts.now }
     requires inside { InTile (view_of parts.now) tile g y }
-    requires short { frame_of byTile (grid (plan_of (view_of parts.now))) ≤ 4294967295 }
-    ensures is { result.0 ≡ start_of byTile (grid (plan_of (view_of parts.now))) tile g y }
+    requires short { frame_of by_tile (grid (plan_of (view_of parts.now))) ≤ 4294967295 }
+    ensures is { result.0 ≡ start_of by_tile (grid (plan_of (view_of parts.now))) tile g y }
     ensures near { result.0 ≤ 2 ^ 60 }
 {
     let before = tiles_before(parts, g);

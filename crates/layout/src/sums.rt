@@ -1,6 +1,6 @@
 // Where lines and tiles begin: each is the sum of what comes before it.
 ghost use Rattle.std.specs.Prelude.{◌≡◌, ◌*◌, ◌^◌, ◌<◌, ◌≤◌, length};
-ghost use Rattle.placement.specs.Grid.{byGroup, byRow, byTile, summed, area as areaIn, line as lineIn, tile_of};
+ghost use Rattle.placement.specs.Grid.{by_group, by_row, by_tile, summed, area as area_in, line as line_in, tile_of};
 ghost use Rattle.placement.specs.Place.{grid};
 ghost use Rattle.layout.specs.Parts.{view_of, Held};
 ghost use Rattle.plans.specs.Views.{strips_by, plan_of, order_of, size_of};
@@ -15,7 +15,7 @@ use plans::Bytes;
 pub(crate) fn line(parts: &Parts, g: usize) -> Bytes
     requires held { Held parts.now }
     requires inside { g < length (strips_by parts.now.interleave (view_of parts.now)) }
-    ensures is { result.0 ≡ lineIn (grid (plan_of (view_of parts.now))) g }
+    ensures is { result.0 ≡ line_in (grid (plan_of (view_of parts.now))) g }
     ensures near { result.0 ≤ 2 ^ 33 }
 {
     let group = group_at(parts, g);
@@ -26,7 +26,7 @@ pub(crate) fn line(parts: &Parts, g: usize) -> Bytes
 fn area(parts: &Parts, g: usize) -> Bytes
     requires held { Held parts.now }
     requires inside { g < length (strips_by parts.now.interleave (view_of parts.now)) }
-    ensures is { result.0 ≡ areaIn (grid (plan_of (view_of parts.now))) g }
+    ensures is { result.0 ≡ area_in (grid (plan_of (view_of parts.now))) g }
     ensures near { result.0 ≤ 2 ^ 48 }
 {
     let rows = group_at(parts, g).rows;
@@ -37,7 +37,7 @@ fn area(parts: &Parts, g: usize) -> Bytes
 pub(crate) fn areas_before(parts: &Parts, g: usize) -> Bytes
     requires held { Held parts.now }
     requires inside { g ≤ length (strips_by parts.now.interleave (view_of parts.now)) }
-    ensures is { result.0 ≡ summed (areaIn (grid (plan_of (view_of parts.now)))) g }
+    ensures is { result.0 ≡ summed (area_in (grid (plan_of (view_of parts.now)))) g }
     ensures near { result.0 ≤ g * 2 ^ 48 }
 {
     let mut sum = 0;
@@ -51,7 +51,7 @@ pub(crate) fn areas_before(parts: &Parts, g: usize) -> Bytes
 pub(crate) fn lines_before(parts: &Parts, g: usize) -> Bytes
     requires held { Held parts.now }
     requires inside { g ≤ length (strips_by parts.now.interleave (view_of parts.now)) }
-    ensures is { result.0 ≡ summed (lineIn (grid (plan_of (view_of parts.now)))) g }
+    ensures is { result.0 ≡ summed (line_in (grid (plan_of (view_of parts.now)))) g }
     ensures near { result.0 ≤ g * 2 ^ 33 }
 {
     let mut sum = 0;
@@ -77,7 +77,7 @@ fn first_rows(parts: &Parts) -> u64
 // The bytes of a tile in which the lines of one group precede the next group's.
 pub(crate) fn tile_by_group(parts: &Parts) -> Bytes
     requires held { Held parts.now }
-    ensures is { result.0 ≡ tile_of byGroup (grid (plan_of (view_of parts.now))) 0 }
+    ensures is { result.0 ≡ tile_of by_group (grid (plan_of (view_of parts.now))) 0 }
     ensures near { result.0 ≤ 2 ^ 53 }
 {
     let groups = group_count(parts);
@@ -87,7 +87,7 @@ pub(crate) fn tile_by_group(parts: &Parts) -> Bytes
 // The bytes of a tile in which each row gives a line of each group.
 pub(crate) fn tile_by_row(parts: &Parts) -> Bytes
     requires held { Held parts.now }
-    ensures is { result.0 ≡ tile_of byRow (grid (plan_of (view_of parts.now))) 0 }
+    ensures is { result.0 ≡ tile_of by_row (grid (plan_of (view_of parts.now))) 0 }
     ensures near { result.0 ≤ 2 ^ 53 }
 {
     let rows = first_rows(parts);
@@ -99,7 +99,7 @@ pub(crate) fn tile_by_row(parts: &Parts) -> Bytes
 pub(crate) fn tile_alone(parts: &Parts, g: usize) -> Bytes
     requires held { Held parts.now }
     requires inside { g < length (strips_by parts.now.interleave (view_of parts.now)) }
-    ensures is { result.0 ≡ tile_of byTile (grid (plan_of (view_of parts.now))) g }
+    ensures is { result.0 ≡ tile_of by_tile (grid (plan_of (view_of parts.now))) g }
     ensures near { result.0 ≤ 2 ^ 53 }
 {
     up_to(area(parts, g), parts.packing.tile_align)
@@ -144,7 +144,7 @@ fn all_tiles(parts: &Parts, each: Bytes) -> u128
 pub(crate) fn tiles_before(parts: &Parts, g: usize) -> u128
     requires held { Held parts.now }
     requires inside { g ≤ length (strips_by parts.now.interleave (view_of parts.now)) }
-    ensures is { result ≡ summed (λ h. (grid (plan_of (view_of parts.now))).tiles * tile_of byTile (grid (plan_of (view_of parts.now))) h) g }
+    ensures is { result ≡ summed (λ h. (grid (plan_of (view_of parts.now))).tiles * tile_of by_tile (grid (plan_of (view_of parts.now))) h) g }
     ensures near { result ≤ g * 2 ^ 83 }
 {
     let mut sum = 0;

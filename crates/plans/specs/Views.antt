@@ -18,7 +18,7 @@ use Rattle.rules.specs.Entries.{Types}
 use Rattle.rules.specs.Rules.{broken}
 use Rattle.rules.specs.Tiles.{side_fits}
 use Rattle.rules.specs.Whole.{list_kept, kept}
-use Rattle.placement.specs.Grid.{Order, byGroup, byRow, byTile, frame_bytes}
+use Rattle.placement.specs.Grid.{Order, by_group, by_row, by_tile, frame_bytes}
 use Rattle.placement.specs.Place.{Strip, Plan, grid}
 use Rattle.plans.specs.Cells.{slot_of, packing_of}
 use Rattle.plans.specs.Entries.{entry_for}
@@ -79,12 +79,12 @@ strip_at MultiY n = 0
 
 -- in which order the lines follow one another
 abbrev pub order_of : Interleave → Order
-order_of Component = byGroup
-order_of Pixel = byGroup
-order_of Mixed = byGroup
-order_of Row = byRow
-order_of TileComponent = byTile
-order_of MultiY = byGroup
+order_of Component = by_group
+order_of Pixel = by_group
+order_of Mixed = by_group
+order_of Row = by_row
+order_of TileComponent = by_tile
+order_of MultiY = by_group
 
 abbrev pub plan_of : View → Plan
 plan_of v =

@@ -1,8 +1,8 @@
 // From two boxes, a width and a height to a layout.
 ghost use Rattle.std.specs.Prelude.{◌≡◌, ◌+◌, ◌≤◌, map, length, take, IfOk};
 ghost use Rattle.boxes.specs.Pairs.{type_of};
-ghost use Rattle.configuration.specs.Encoded.{listed as listedIn};
-ghost use Rattle.plans.specs.Entries.{is_chroma, unsettled as unsettledBy, settled_in, entry_for};
+ghost use Rattle.configuration.specs.Encoded.{listed as listed_in};
+ghost use Rattle.plans.specs.Entries.{is_chroma, unsettled as unsettled_by, settled_in, entry_for};
 ghost use Rattle.fault.specs.declared.reason.Reason.TheVariants.{FrameSize};
 ghost use Rattle.rules.specs.Rules.{broken};
 ghost use Rattle.layout.specs.Layouts.{shown, shown_by};
@@ -53,7 +53,7 @@ fn settle(entry: &mut Entry, sampling: Sampling, width: u32, height: u32)
 
 // An entry as it is listed, with its component's type.
 fn unsettled(boxes: &Boxes, entry: &ListedEntry) -> Entry
-    ensures { result ≡ unsettledBy (type_of boxes.now) entry.now }
+    ensures { result ≡ unsettled_by (type_of boxes.now) entry.now }
 {
     let component_type = match boxes.component_type(entry.index) {
         Some(number) => number,
@@ -116,7 +116,7 @@ fn tiles_of(less_one: u32) -> u64
 fn parts_of(boxes: &Boxes, listing: &Listing, width: u32, height: u32) -> Parts
     ensures view { view_of result ≡ view_by (type_of boxes.now) listing.now width height }
     ensures counted { result.count ≡ length (view_of result).entries }
-    ensures few { length (listedIn listing.now) ≤ 16 }
+    ensures few { length (listed_in listing.now) ≤ 16 }
 {
     let packing = listing.packing;
     let entries = listing.entries();

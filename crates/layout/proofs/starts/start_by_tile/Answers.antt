@@ -1,5 +1,5 @@
 use Rattle.std.proofs.Common.{◌≡◌, ℕ, ◌+◌, ◌*◌, ◌^◌, ◌≤◌, length, ap, ◌∙◌, mul-le-mul, arith}
-use Rattle.placement.specs.Grid.{summed, byTile, tile_of}
+use Rattle.placement.specs.Grid.{summed, by_tile, tile_of}
 use Rattle.placement.specs.Place.{grid}
 use Rattle.layout.specs.Parts.{view_of}
 use Rattle.plans.specs.Views.{plan_of, strips_by}
@@ -12,20 +12,20 @@ overflow_cast-result c =
       fits = omega (
         arith,
         c.tiles_before-before.ensures.is,
-        groups_below (λ h. (grid (plan_of (view_of c.args.parts.now))).tiles * tile_of byTile (grid (plan_of (view_of c.args.parts.now))) h) c.args.g
+        groups_below (λ h. (grid (plan_of (view_of c.args.parts.now))).tiles * tile_of by_tile (grid (plan_of (view_of c.args.parts.now))) h) c.args.g
             (length (strips_by c.args.parts.now.interleave (view_of c.args.parts.now))) c.requires.inside.group c.requires.short,
       );
     }
 
 pub overflow_mul-result : goal.overflow_mul-result
 overflow_mul-result c =
-    let s = groups_below (λ h. (grid (plan_of (view_of c.args.parts.now))).tiles * tile_of byTile (grid (plan_of (view_of c.args.parts.now))) h) c.args.g
+    let s = groups_below (λ h. (grid (plan_of (view_of c.args.parts.now))).tiles * tile_of by_tile (grid (plan_of (view_of c.args.parts.now))) h) c.args.g
     (length (strips_by c.args.parts.now.interleave (view_of c.args.parts.now))) c.requires.inside.group c.requires.short in
     record { fits = omega (arith, tiles_below c.args.tile _ c.tile_alone-each.result.0 _ c.requires.inside.tile c.tile_alone-each.ensures.is (omega (arith, s))) }
 
 pub overflow_add-result : goal.overflow_add-result
 overflow_add-result c =
-    let s = groups_below (λ h. (grid (plan_of (view_of c.args.parts.now))).tiles * tile_of byTile (grid (plan_of (view_of c.args.parts.now))) h) c.args.g
+    let s = groups_below (λ h. (grid (plan_of (view_of c.args.parts.now))).tiles * tile_of by_tile (grid (plan_of (view_of c.args.parts.now))) h) c.args.g
     (length (strips_by c.args.parts.now.interleave (view_of c.args.parts.now))) c.requires.inside.group c.requires.short in
     record {
       fits = omega (
@@ -37,7 +37,7 @@ overflow_add-result c =
 
 pub overflow_add-result-2 : goal.overflow_add-result-2
 overflow_add-result-2 c =
-    let s = groups_below (λ h. (grid (plan_of (view_of c.args.parts.now))).tiles * tile_of byTile (grid (plan_of (view_of c.args.parts.now))) h) c.args.g
+    let s = groups_below (λ h. (grid (plan_of (view_of c.args.parts.now))).tiles * tile_of by_tile (grid (plan_of (view_of c.args.parts.now))) h) c.args.g
     (length (strips_by c.args.parts.now.interleave (view_of c.args.parts.now))) c.requires.inside.group c.requires.short in
     record {
       fits = omega (
@@ -51,7 +51,7 @@ overflow_add-result-2 c =
 
 pub returns : goal.returns
 returns c =
-    let s = groups_below (λ h. (grid (plan_of (view_of c.args.parts.now))).tiles * tile_of byTile (grid (plan_of (view_of c.args.parts.now))) h) c.args.g
+    let s = groups_below (λ h. (grid (plan_of (view_of c.args.parts.now))).tiles * tile_of by_tile (grid (plan_of (view_of c.args.parts.now))) h) c.args.g
     (length (strips_by c.args.parts.now.interleave (view_of c.args.parts.now))) c.requires.inside.group c.requires.short in
     record {
       is = three (λ (a b d : ℕ). a + (c.args.tile * b + c.args.y * d)) c.tiles_before-before.ensures.is c.tile_alone-each.ensures.is c.line-line.ensures.is;

@@ -1,5 +1,5 @@
 use Rattle.std.proofs.Common.{◌≡◌, ℕ, ◌+◌, ◌*◌, ◌^◌, ◌≤◌, ap, ◌∙◌, arith}
-use Rattle.placement.specs.Grid.{byTile, tile_of}
+use Rattle.placement.specs.Grid.{by_tile, tile_of}
 use Rattle.placement.specs.Place.{grid}
 use Rattle.layout.specs.Parts.{view_of}
 use Rattle.plans.specs.Views.{plan_of}
@@ -14,7 +14,7 @@ overflow_add-sum c =
 
 pub loop-h-preserved : goal.loop-h-preserved
 loop-h-preserved c =
-    sum_more (λ h. (grid (plan_of (view_of c.args.parts.now))).tiles * tile_of byTile (grid (plan_of (view_of c.args.parts.now))) h)
+    sum_more (λ h. (grid (plan_of (view_of c.args.parts.now))).tiles * tile_of by_tile (grid (plan_of (view_of c.args.parts.now))) h)
     c.loop-h.sum c.all_tiles-sum.result c.loop-h.h (2 ^ 83) c.loop-h.invariant.0 c.loop-h.invariant.1
     (c.all_tiles-sum.ensures.is ∙ ap (λ (x : ℕ). (grid (plan_of (view_of c.args.parts.now))).tiles * x) c.tile_alone.ensures.is)
     c.all_tiles-sum.ensures.near

@@ -44,11 +44,14 @@ returns-then-size-gt-LARGEST c =
     }
 
 pub invariant_of-result : goal.invariant_of-result
-invariant_of-result c = (
-  ∣ accepted c.args.boxes.now c.args.width c.args.height c.listing-listing.result c.parts_of-parts.result c.listing-listing.ensures c.parts_of-parts.ensures.view
-      c.parts_of-parts.ensures.few c.in_ok-check.ensures ∣₁,
-  (c.parts_of-parts.ensures.counted, (c.frame_bytes-size.ensures, (c.if-size-gt-LARGEST.false, tt))),
-)
+invariant_of-result c =
+    record {
+      accepted = ∣ accepted c.args.boxes.now c.args.width c.args.height c.listing-listing.result c.parts_of-parts.result c.listing-listing.ensures c.parts_of-parts.ensures.view
+          c.parts_of-parts.ensures.few c.in_ok-check.ensures ∣₁;
+      counted = c.parts_of-parts.ensures.counted;
+      sized = c.frame_bytes-size.ensures;
+      short = c.if-size-gt-LARGEST.false;
+    }
 
 pub returns : goal.returns
 returns c =
