@@ -1,5 +1,7 @@
 //! Sources and stores of bytes: what can be read and what can be written, byte by byte, whatever it lies on.
 
+#![tactic(auto)]
+
 mod bounds;
 mod copying;
 mod held;

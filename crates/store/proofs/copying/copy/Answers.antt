@@ -8,7 +8,7 @@ loop-at-preserved g c =
     let to : List ℕ = g.T.Source.bytes c.args.to.now in
     let old : List ℕ = g.T.Source.bytes c.loop-at.to in
     let new : List ℕ = g.T.Source.bytes c.write.new.self in (
-      copy_turn from to c.loop-at.at old new c.byte-at.result (omega arith) (omega arith) c.loop-at.invariant.0 c.byte-at.ensures c.write.ensures.after,
+      copy_turn from to c.loop-at.at old new c.byte_at.result (omega arith) (omega arith) c.loop-at.invariant.0 c.byte_at.ensures c.write.ensures.after,
       c.write.ensures.beside ∙ c.loop-at.invariant.1,
     )
 

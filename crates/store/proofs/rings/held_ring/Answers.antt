@@ -9,7 +9,7 @@ returns c =
     let r = c.new-3.result in
     let mid : c.min.result ≡ min (length bytes) c.args.start = omega arith in
     let first : r.first.bytes.now ≡ drop c.args.start bytes =
-    ap (λ h. h.bytes.now) c.new-3.ensures.0 ∙ c.new.ensures ∙ c.split-at.ensures.back ∙ drop-cut c.min.result c.args.start bytes mid in
+    ap (λ h. h.bytes.now) c.new-3.ensures.0 ∙ c.new.ensures ∙ c.split_at.ensures.back ∙ drop-cut c.min.result c.args.start bytes mid in
     let second : r.second.bytes.now ≡ take c.args.start bytes =
-    ap (λ h. h.bytes.now) c.new-3.ensures.1 ∙ c.new-2.ensures ∙ c.split-at.ensures.front ∙ take-cut c.min.result c.args.start bytes mid in
+    ap (λ h. h.bytes.now) c.new-3.ensures.1 ∙ c.new-2.ensures ∙ c.split_at.ensures.front ∙ take-cut c.min.result c.args.start bytes mid in
     record { first = first; second = second; bytes = turned 4294967295 c.args.start bytes r.first.bytes.now r.second.bytes.now first second }

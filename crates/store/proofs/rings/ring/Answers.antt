@@ -7,12 +7,12 @@ returns c =
     let buffer : List ℕ = c.args.buffer.now in
     let start : ℕ = c.args.start in
     let r = c.new-3.result in
-    let split = c.split-at-mut-before in
+    let split = c.split_at_mut-before in
     let mid : c.min.result ≡ min (length buffer) start = omega arith in
     let first : r.first.buffer.now ≡ drop start buffer =
     ap (λ m. m.buffer.now) c.new-3.ensures.0 ∙ c.new.ensures.value
-    ∙ split_after start c.min.result buffer split.result.0.now split.result.1.now split.ensures.value split.ensures.front-len mid in
+    ∙ split_after start c.min.result buffer split.result.0.now split.result.1.now split.ensures.value split.ensures.front_len mid in
     let second : r.second.buffer.now ≡ take start buffer =
     ap (λ m. m.buffer.now) c.new-3.ensures.1 ∙ c.new-2.ensures.value
-    ∙ split_before start c.min.result buffer split.result.0.now split.result.1.now split.ensures.value split.ensures.front-len mid in
+    ∙ split_before start c.min.result buffer split.result.0.now split.result.1.now split.ensures.value split.ensures.front_len mid in
     record { first = first; second = second; bytes = turned 4294967295 start buffer r.first.buffer.now r.second.buffer.now first second }

@@ -7,7 +7,7 @@ loop-at-preserved g c =
     let xs : List ℕ = g.S.Source.bytes c.args.one.now in
     let ys : List ℕ = g.T.Source.bytes c.args.other.now in
     take_more_same xs ys c.loop-at.at 0 (omega arith) (omega arith) c.loop-at.invariant
-    (sym c.byte-at.ensures ∙ c.if-byte-at.false ∙ c.byte-at-in-loop-at.ensures)
+    (sym c.byte_at.ensures ∙ c.if-byte_at.false ∙ c.byte_at-in-loop-at.ensures)
 
 pub returns : goal.returns
 returns g c =

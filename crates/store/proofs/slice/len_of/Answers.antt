@@ -7,6 +7,6 @@ returns c =
     record {
       is = simp length-take (omega arith);
       short = omega arith;
-      each = octets_take 4294967295 c.args.bytes.now (λ at. (c.type-inv.bytes at).fits);
+      each = octets_take 4294967295 c.args.bytes.now (λ at. (c.type_inv.bytes at).fits);
       within = omega arith;
     }

@@ -16,4 +16,4 @@ returns-then-at-len g c =
     c.read-then-at-len.ensures ∙ rw c.len-seam.ensures.is (read-second 4294967295 xs ys c.args.at (omega arith) (omega arith))
 
 pub returns-else-at-len : goal.returns-else-at-len
-returns-else-at-len g c = ap (λ f. Err f) c.out-of-bounds.ensures ∙ read_past _ _ (omega arith)
+returns-else-at-len g c = ap (λ f. Err f) c.out_of_bounds.ensures ∙ read_past _ _ (omega arith)

@@ -27,7 +27,7 @@ returns-then-at-len g c =
 pub returns-else-at-len : goal.returns-else-at-len
 returns-else-at-len g c =
     record {
-      answer = ap (λ f. Err f) c.out-of-bounds.ensures ∙ write_past _ _ (omega arith);
+      answer = ap (λ f. Err f) c.out_of_bounds.ensures ∙ write_past _ _ (omega arith);
       after = sym (set_past _ _ _ (omega arith));
       beside = refl;
     }

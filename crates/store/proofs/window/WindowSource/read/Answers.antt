@@ -2,8 +2,8 @@ use Rattle.std.proofs.Common.{◌≡◌, ℕ, List, ◌∙◌, arith}
 use Rattle.store.proofs.Views.{read-window, length_window}
 use Rattle.store.proofs.window.WindowSource.read.Goals as goal
 
-pub overflow-add-self : goal.overflow-add-self
-overflow-add-self g c =
+pub overflow_add-self : goal.overflow_add-self
+overflow_add-self g c =
     let w = c.args.self.now in
     omega (arith, length_window (g.S.Source.bytes w.below) w.start w.count)
 

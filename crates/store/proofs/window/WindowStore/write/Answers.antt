@@ -5,8 +5,8 @@ use Rattle.store.proofs.Answering.{write_past}
 use Rattle.store.proofs.Views.{write-window, length_window, set_window, kept_window}
 use Rattle.store.proofs.window.WindowStore.write.Goals as goal
 
-pub overflow-add-self : goal.overflow-add-self
-overflow-add-self g c =
+pub overflow_add-self : goal.overflow_add-self
+overflow_add-self g c =
     let w = c.args.self.now in
     omega (arith, length_window (g.S.Source.bytes w.below) w.start w.count)
 
@@ -23,7 +23,7 @@ returns-then-at-len g c =
 pub returns-else-at-len : goal.returns-else-at-len
 returns-else-at-len g c =
     record {
-      answer = ap (λ f. Err f) c.out-of-bounds.ensures ∙ write_past _ _ (omega arith);
+      answer = ap (λ f. Err f) c.out_of_bounds.ensures ∙ write_past _ _ (omega arith);
       after = sym (set_past _ _ _ (omega arith));
       beside = refl;
     }
