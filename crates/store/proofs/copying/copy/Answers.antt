@@ -1,4 +1,4 @@
-use Rattle.std.proofs.Common.{◌≡◌, ℕ, List, ◌∙◌, arith}
+use Rattle.std.proofs.Common.{ℕ, List, ◌∙◌, arith}
 use Rattle.store.proofs.Counting.{copy_turn, copy_end}
 use Rattle.store.proofs.copying.copy.Goals as goal
 

@@ -1,4 +1,4 @@
-use Rattle.std.proofs.Common.{sym, ◌∙◌, arith}
+use Rattle.std.proofs.Common.{sym, ◌∙◌}
 use Rattle.store.proofs.Answering.{refused_reads_none}
 use Rattle.store.proofs.sameness.byte_at.Goals as goal
 

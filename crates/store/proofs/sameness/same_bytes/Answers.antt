@@ -1,4 +1,4 @@
-use Rattle.std.proofs.Common.{◌≡◌, ℕ, List, sym, refl, ◌∙◌, arith}
+use Rattle.std.proofs.Common.{ℕ, List, sym, refl, ◌∙◌, arith}
 use Rattle.std.proofs.lemmas.List.{take_more_same, take_all}
 use Rattle.store.proofs.sameness.same_bytes.Goals as goal
 

@@ -1,4 +1,4 @@
-use Rattle.std.proofs.Common.{◌<◌, Err, ap, ◌∙◌, arith, length-take, get_or-take}
+use Rattle.std.proofs.Common.{◌<◌, Err, ap, ◌∙◌, arith, get_or-take}
 use Rattle.store.proofs.Answering.{read_within, read_past}
 use Rattle.store.proofs.slice.read_of.Goals as goal
 

@@ -1,4 +1,4 @@
-use Rattle.std.proofs.Common.{◌≡◌, ℕ, List, Err, ap, ◌∙◌, arith}
+use Rattle.std.proofs.Common.{ℕ, List, Err, ap, ◌∙◌, arith}
 use Rattle.store.proofs.Answering.{read_past}
 use Rattle.store.proofs.Seams.{read_first, read-second}
 use Rattle.store.proofs.join.JoinSource.read.Goals as goal

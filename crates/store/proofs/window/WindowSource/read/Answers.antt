@@ -1,4 +1,4 @@
-use Rattle.std.proofs.Common.{◌≡◌, ℕ, List, ◌∙◌, arith}
+use Rattle.std.proofs.Common.{◌∙◌, arith}
 use Rattle.store.proofs.Views.{read-window, length_window}
 use Rattle.store.proofs.window.WindowSource.read.Goals as goal
 
