@@ -148,7 +148,7 @@ pub(crate) fn lanes_of<'a>(heap: Global, words: &'a [String]) -> Result<Vec<Lane
     let mut number = 1;
     let mut start = 0;
     for i in 0..words.len() {
-        if words[i] == SEPARATOR {
+        if words[i].as_str() == SEPARATOR {
             lanes.push(whole_lane_of(heap, number, &words[start..i])?)?;
             number += 1;
             start = i + 1;
