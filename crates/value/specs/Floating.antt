@@ -1,40 +1,31 @@
--- Floats and their codes: which patterns are numbers, and the two ways there and back, for either width.
-use Rattle.std.specs.Prelude.{◌≡◌, ℕ, ◌*◌, ◌%◌, ◌<◌, ◌≤◌, Bool, true, false, cond, not, T, Ok, Err, Result, from_bits, is_nan, nat_lt, to_bits, refl, Float}
-use Rattle.std.proofs.Common.{sym, ◌∙◌, ap, subst, arith, lt-ltb}
-use Rattle.std.proofs.Math.Arith.{le→nltb}
+-- Floats and their codes: the two ways there and back, for either width.
+use Rattle.std.specs.Prelude.{◌≡◌, ℕ, ◌*◌, ◌<◌, Bool, true, false, cond, not, T, Ok, Err, Result, from_bits, is_nan, to_bits, refl, Float}
+use Rattle.std.specs.Result.{is_ok, result_unwrap_or}
+use Rattle.std.proofs.Common.{sym, ◌∙◌, ap, subst}
 use Rattle.std.specs.Float.{Format as Width}
-use Rattle.std.specs.Float.Ieee.{nan_bits, fits, ones, hid, top}
-use Rattle.std.specs.Float.Ieee.Bits.{of_bits-to_bits, to_bits-of_bits, to_bits-lt, nan_bits_is, nan_bits_above, is_false}
+use Rattle.std.specs.Float.Ieee.{nan_bits, fits, top}
+use Rattle.std.specs.Float.Ieee.Bits.{of_bits-to_bits, to_bits-of_bits, to_bits-lt, nan_bits_is}
 use Rattle.fault.specs.declared.fault.Fault.{Fault}
 use Rattle.fault.specs.declared.reason.Reason.TheVariants.{NotANumber}
 use Rattle.value.specs.Coded.{refused}
 use Rattle.value.specs.Floats.{float_code, float_of}
 
+-- a refusal has no value
+pub not_ok : {A B : Type 0} (e : Fault) (y : A) → ◌≡◌ {A = Result A Fault} (Err e) (Ok y) → B
+not_ok e y h = absurd (subst (λ r. T (is_ok r)) (sym h) tt)
+
+pub ok_same : {A : Type 0} (x y : A) → ◌≡◌ {A = Result A Fault} (Ok x) (Ok y) → x ≡ y
+ok_same x y h = ap (λ r. result_unwrap_or r x) h
+
 -- what was tested, where the answer is not a refusal
 pub cond_ok : {A : Type 0} (b : Bool) (e : Fault) (x y : A) → cond b (Err e) (Ok x) ≡ Ok y → (b ≡ false) × (x ≡ y)
-cond_ok true e x y h = let z : ◌≡◌ {A = ℕ} 0 1 = cc in absurd (omega arith)
-cond_ok false e x y h = (refl, cc)
+cond_ok true e x y h = not_ok e y h
+cond_ok false e x y h = (refl, ok_same x y h)
+
+pub no_nan : (b : Bool) → b ≡ false → T (not b)
+no_nan b e = subst (λ (k : Bool). T (not k)) (sym e) tt
 
 module _ (w : Width) where
-  -- above the infinity, the sign left out, no pattern is a number
-  pub above : (n : ℕ) → ones w * hid w < n % top w → nan_bits w n ≡ true
-  above n h = nan_bits_above w n ∙ lt-ltb (ones w * hid w) (n % top w) h
-
-  pub up_to_lem : (n : ℕ) → n % top w ≤ ones w * hid w → nan_bits w n ≡ false
-  up_to_lem n h = nan_bits_above w n ∙ is_false (nat_lt (ones w * hid w) (n % top w)) (le→nltb (ones w * hid w) (n % top w) h)
-
-  no_nan : (b : Bool) → b ≡ false → T (not b)
-  no_nan b e = subst (λ (k : Bool). T (not k)) (sym e) tt
-
-  pub is_number : (n : ℕ) → n % top w ≤ ones w * hid w → T (not (nan_bits w n))
-  is_number n h = no_nan (nan_bits w n) (up_to_lem n h)
-
-  pub refuses : (n : ℕ) → ones w * hid w < n % top w → refused NotANumber ≡ float_of w n
-  refuses n h = sym (ap (λ b. cond b (refused NotANumber) (Ok (from_bits w n))) (above n h))
-
-  pub answers : (n : ℕ) → n % top w ≤ ones w * hid w → Ok (from_bits w n) ≡ float_of w n
-  answers n h = sym (ap (λ b. cond b (refused NotANumber) (Ok (from_bits w n))) (up_to_lem n h))
-
   pub code_small : (x : Float) (n : ℕ) → T (fits w x) → float_code w x ≡ Ok n → n < 2 * top w
   code_small x n f h = subst (λ (k : ℕ). k < 2 * top w) (cond_ok (is_nan x) _ (to_bits w x) n h).1 (to_bits-lt w x f)
 

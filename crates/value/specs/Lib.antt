@@ -1,7 +1,7 @@
 pub mod Coded
 pub mod Complexes
 pub mod Components
-pub mod Floats
 pub mod Floating
-pub mod Binary32KindLemmas
+pub mod Floats
 pub mod Paired
+pub mod Singles

@@ -1,12 +1,10 @@
 // The floats of 32 bits.
-ghost use Rattle.std.specs.Prelude.{◌^◌, T, nat_lt};
+ghost use Rattle.std.specs.Prelude.{T};
 ghost use Rattle.std.specs.Float.{binary32};
 ghost use Rattle.std.specs.Float.Ieee.{fits};
 ghost use Rattle.value.specs.Components.{floats_of};
-ghost use Rattle.value.specs.Floats.{float_code, single_of, float_of};
-ghost use Rattle.std.proofs.Common.{◌∙◌, ltb-true};
-ghost use Rattle.value.specs.Floating as float;
-ghost use Rattle.value.specs.Binary32KindLemmas.{within, accepted};
+ghost use Rattle.value.specs.Floats.{float_code, single_of};
+ghost use Rattle.value.specs.Singles as single;
 
 use crate::kind::{Kind, refusal};
 use crate::pattern::{bits_of, float_of};
@@ -26,11 +24,9 @@ impl Kind for Binary32 {
 
     ghost decodes = { single_of };
 
-    ghost back = { λ x n fit h. within n (float.code_small binary32 x n fit h) ∙ float.back binary32 x n fit h };
+    ghost back = { single.back };
 
-    ghost again = { λ n x small h.
-        let p = accepted (nat_lt n (2 ^ 32)) (float_of binary32 n) _ x h in
-        float.again binary32 n x (ltb-true n (2 ^ 32) p.0) p.1 };
+    ghost again = { single.again };
 
     fn takes(format: Format, depth: u16) -> bool {
         match format {

@@ -1,5 +1,7 @@
 //! Kinds of values: which components each takes, and how its values and their codes answer for one another.
 
+#![tactic(auto)]
+
 mod binary32;
 mod binary64;
 mod complex;

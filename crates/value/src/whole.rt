@@ -1,7 +1,7 @@
 // Whole numbers, each its own code. Whether one has room in a component's depth is for the frame to say.
 ghost use Rattle.std.specs.Prelude.{◌^◌, ◌<◌, Ok};
 ghost use Rattle.value.specs.Components.{integers};
-ghost use Rattle.std.proofs.Common.{rules};
+ghost use Rattle.std.proofs.Common.{sym};
 
 use crate::kind::Kind;
 use choices::Format;
@@ -20,9 +20,9 @@ impl Kind for Whole {
 
     ghost decodes = { λ n. Ok n };
 
-    ghost back = { Prim.search rules };
+    ghost back = { λ v n fit h. sym h };
 
-    ghost again = { Prim.search rules };
+    ghost again = { λ n v small h. sym h };
 
     fn takes(format: Format, depth: u16) -> bool {
         match format {
