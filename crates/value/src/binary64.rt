@@ -47,6 +47,7 @@ impl Kind for Binary64 {
         Ok(value.to_bits())
     }
 
+    #[tactic(auto, using(crate::proofs::Patterns::refuses, crate::proofs::Patterns::is_number, crate::proofs::Patterns::answers))]
     fn decode(code: u64) -> Result<f64, Fault> {
         if code % SIGN > INFINITY {
             return Err(refusal(Reason::NotANumber));

@@ -21,6 +21,7 @@ pub(crate) fn bits_of(value: f32) -> Result<u32, Fault>
     Ok(value.to_bits())
 }
 
+#[tactic(auto, using(crate::proofs::Patterns::refuses, crate::proofs::Patterns::is_number, crate::proofs::Patterns::answers))]
 pub(crate) fn float_of(bits: u32) -> Result<f32, Fault>
     ensures { result ≡ float_of binary32 bits }
 {
