@@ -19,7 +19,7 @@ const NUMBERS: [(f32, f32, u64); 7] = [
 #[test]
 fn numbers(rt: HostRuntime) -> Result<(), Fail> {
     for (re, im, code) in NUMBERS {
-        stands::<ComplexBinary32>(&rt, Complex { re, im }, code).note(format_args!("code {code}"))?;
+        stands::<ComplexBinary32>(&rt, Complex { re, im }, code);
         assert!(rt; ComplexBinary32::decode(code)? == Complex { re, im });
     }
     Ok(())
@@ -34,16 +34,13 @@ fn paired(re: u32, im: u32) -> u64 {
 
 // One part, or both, is not a number.
 #[test]
-fn not_numbers(rt: HostRuntime) -> Result<(), Fail> {
+fn not_numbers(rt: HostRuntime) {
     for bits in NOT_NUMBERS {
         for code in [paired(bits, ONE), paired(ONE, bits), paired(bits, bits)] {
-            no_value::<ComplexBinary32>(&rt, code, Reason::NotANumber).note(format_args!(
-                "code {code}"
-            ))?;
+            no_value::<ComplexBinary32>(&rt, code, Reason::NotANumber);
         }
     }
     for (re, im) in [(f32::NAN, 1.0), (1.0, f32::NAN), (f32::NAN, -f32::NAN)] {
         no_code::<ComplexBinary32>(&rt, Complex { re, im }, Reason::NotANumber);
     }
-    Ok(())
 }

@@ -47,16 +47,16 @@ const NOT_NUMBERS: [u64; 12] = [
 #[test]
 fn numbers(rt: HostRuntime) -> Result<(), Fail> {
     for (value, code) in NUMBERS {
-        stands::<Binary64>(&rt, value, code).note(format_args!("code {code}"))?;
+        stands::<Binary64>(&rt, value, code);
         assert!(rt; Binary64::decode(code)? == value);
     }
     Ok(())
 }
 
 #[test]
-fn not_numbers(rt: HostRuntime) -> Result<(), Fail> {
+fn not_numbers(rt: HostRuntime) {
     for code in NOT_NUMBERS {
-        no_value::<Binary64>(&rt, code, Reason::NotANumber).note(format_args!("code {code}"))?;
+        no_value::<Binary64>(&rt, code, Reason::NotANumber);
     }
     let zero: f64 = 0.0;
     for value in [
@@ -67,5 +67,4 @@ fn not_numbers(rt: HostRuntime) -> Result<(), Fail> {
     ] {
         no_code::<Binary64>(&rt, value, Reason::NotANumber);
     }
-    Ok(())
 }

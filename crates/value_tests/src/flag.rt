@@ -1,12 +1,11 @@
 // A kind of one's own, as docs/VALUES.md has it: a flag in one bit.
 ghost use Rattle.std.specs.Prelude.{Bool};
 ghost use Rattle.value_tests.specs.Flags.{one_bit, always, flag_code, flag_of};
-ghost use Rattle.std.proofs.Common.{rules};
+ghost use Rattle.value_tests.specs.FlagLaws as law;
 
 use crate::case::{no_value, stands, takes_only};
 use choices::Format;
 use fault::{Fault, Layer, Reason};
-use std::test::Fail;
 use value::Kind;
 
 enum Flag {}
@@ -22,9 +21,9 @@ impl Kind for Flag {
 
     ghost decodes = { flag_of };
 
-    ghost back = { Prim.search rules };
+    ghost back = { law.back };
 
-    ghost again = { Prim.search rules };
+    ghost again = { law.again };
 
     fn takes(format: Format, depth: u16) -> bool {
         match format {
@@ -51,9 +50,9 @@ impl Kind for Flag {
 }
 
 #[test]
-fn flags(rt: HostRuntime) -> Result<(), Fail> {
-    takes_only::<Flag>(&rt, Format::Integer, 1, 1)?;
-    stands::<Flag>(&rt, false, 0)?;
-    stands::<Flag>(&rt, true, 1)?;
-    no_value::<Flag>(&rt, 2, Reason::Code)
+fn flags(rt: HostRuntime) {
+    takes_only::<Flag>(&rt, Format::Integer, 1, 1);
+    stands::<Flag>(&rt, false, 0);
+    stands::<Flag>(&rt, true, 1);
+    no_value::<Flag>(&rt, 2, Reason::Code);
 }

@@ -1,6 +1,8 @@
 //! Tests of values and their codes, and a kind of one's own.
 //! The tables of floats are what tools/float-codes.c prints. docs/VALUES.md has the rules.
 
+#![tactic(auto)]
+
 #[cfg(test)]
 mod case;
 #[cfg(test)]

@@ -37,17 +37,17 @@ pub(crate) const NOT_NUMBERS: [u32; 12] = [
 #[test]
 fn numbers(rt: HostRuntime) -> Result<(), Fail> {
     for (value, code) in NUMBERS {
-        stands::<Binary32>(&rt, value, code).note(format_args!("code {code}"))?;
+        stands::<Binary32>(&rt, value, code);
         assert!(rt; Binary32::decode(code)? == value);
     }
     Ok(())
 }
 
 #[test]
-fn not_numbers(rt: HostRuntime) -> Result<(), Fail> {
+fn not_numbers(rt: HostRuntime) {
     for bits in NOT_NUMBERS {
         let code = u64::from(bits);
-        no_value::<Binary32>(&rt, code, Reason::NotANumber).note(format_args!("code {code}"))?;
+        no_value::<Binary32>(&rt, code, Reason::NotANumber);
     }
     let zero: f32 = 0.0;
     for value in [
@@ -58,14 +58,12 @@ fn not_numbers(rt: HostRuntime) -> Result<(), Fail> {
     ] {
         no_code::<Binary32>(&rt, value, Reason::NotANumber);
     }
-    Ok(())
 }
 
 // A code with more than 32 bits, whatever its lower ones spell.
 #[test]
-fn too_large(rt: HostRuntime) -> Result<(), Fail> {
+fn too_large(rt: HostRuntime) {
     for code in [0x1_0000_0000, 0x1_3f80_0000, 0x1_7fc0_0000, u64::MAX] {
-        no_value::<Binary32>(&rt, code, Reason::Code)?;
+        no_value::<Binary32>(&rt, code, Reason::Code);
     }
-    Ok(())
 }
