@@ -1,7 +1,7 @@
 -- What a write through a memory leaves in the buffer.
-use Rattle.std.proofs.Common.{◌≡◌, ℕ, List, [], ◌∷◌, ◌++◌, take, drop, set, sym, ◌∙◌}
+use Rattle.std.proofs.Common.{◌≡◌, ℕ, List, [], ◌∷◌, ◌++◌, take, drop, set}
 use Rattle.std.proofs.lemmas.List.{take-append-drop}
-use Rattle.store.specs.Unwritten.{Unwritten, nothing, along}
+use Rattle.store.specs.Unwritten.{nothing, along}
 
 module _ (limit n m at v : ℕ) (old given last : List ℕ) (e : given ≡ old) (k : along (m ∷ []) (along (drop limit last) nothing) ≡ along (n ∷ []) (along (drop limit given) nothing)) where
   -- it is the same buffer

@@ -1,63 +1,76 @@
 // What a source or a store is held to.
 use fault::Fault;
+use std::fmt::Display;
 use std::process::Abort;
-use std::test::Fail;
 use store::{Held, Source, Store, copy};
 
-pub(crate) fn refused_at<T: Drop>(
-    rt: &impl Abort,
-    answer: Result<T, Fault>,
-    at: u64,
-) -> Result<(), Fail> {
+// A handle that puts a note, as the case of a table, before what a failure says.
+#[derive(Drop)]
+pub(crate) struct Noted<R, N> {
+    rt: R,
+    note: N,
+}
+
+impl<R, N> Noted<R, N> {
+    pub(crate) fn new(rt: R, note: N) -> Noted<R, N> {
+        Noted { rt, note }
+    }
+}
+
+impl<R: Abort, N: Display> Abort for Noted<R, N> {
+    fn abort(&self) -> ! {
+        self.rt.abort()
+    }
+
+    fn exit(&self, code: i32) -> ! {
+        self.rt.exit(code)
+    }
+
+    fn panic<D: Display + Drop>(&self, message: D) -> ! {
+        let note = &self.note;
+        self.rt.panic(format_args!("{note}: {message}"))
+    }
+}
+
+pub(crate) fn refused_at<T: Drop>(rt: &impl Abort, answer: Result<T, Fault>, at: u64) {
     let Err(fault) = answer else {
-        return Err(Fail::new("not refused"));
+        panic!(rt; "not refused")
     };
     assert_eq!(rt; fault.reason.number(), 26);
     assert_eq!(rt; fault.layer.letter(), 's');
     assert_eq!(rt; fault.place, at);
-    Ok(())
 }
 
 // The source has these bytes and no others, and refuses what lies past them.
-pub(crate) fn holds<S: Source>(rt: &impl Abort, source: &S, bytes: &[u8]) -> Result<(), Fail> {
+pub(crate) fn holds<S: Source>(rt: &impl Abort, source: &S, bytes: &[u8]) {
     let count = bytes.len() as u64;
     assert_eq!(rt; source.len(), count);
     for (at, byte) in bytes.iter().enumerate() {
-        assert_eq!(rt; source.read(at as u64)?, *byte, "byte {at}");
+        assert_eq!(rt; source.read(at as u64), Ok(*byte), "byte {at}");
     }
     for past in [count, count.saturating_add(1), u64::MAX] {
-        refused_at(rt, source.read(past), past)?;
+        refused_at(rt, source.read(past), past);
     }
-    Ok(())
 }
 
 // The store, which has these bytes, takes another value at each of them, and at no other.
-pub(crate) fn takes<S: Store>(
-    rt: &impl Abort,
-    store: &mut S,
-    bytes: &mut [u8],
-) -> Result<(), Fail> {
+pub(crate) fn takes<S: Store>(rt: &impl Abort, store: &mut S, bytes: &mut [u8]) {
     let count = bytes.len();
     for at in 0..count {
         let value = bytes[at] ^ 0xff;
         bytes[at] = value;
-        store.write(at as u64, value)?;
-        holds(rt, store, bytes)?;
+        assert_eq!(rt; store.write(at as u64, value), Ok(()));
+        holds(rt, store, bytes);
     }
     for past in [count as u64, (count as u64).saturating_add(1), u64::MAX] {
-        refused_at(rt, store.write(past, 1), past)?;
+        refused_at(rt, store.write(past, 1), past);
     }
-    holds(rt, store, bytes)
+    holds(rt, store, bytes);
 }
 
 // The store has the old bytes, and takes the new ones, which are as many.
-pub(crate) fn overwritten<S: Store>(
-    rt: &impl Abort,
-    store: &mut S,
-    old: &[u8],
-    new: &[u8],
-) -> Result<(), Fail> {
-    holds(rt, store, old)?;
+pub(crate) fn overwritten<S: Store>(rt: &impl Abort, store: &mut S, old: &[u8], new: &[u8]) {
+    holds(rt, store, old);
     assert_eq!(rt; copy(&Held::new(new), store), new.len() as u64);
-    holds(rt, store, new)
+    holds(rt, store, new);
 }

@@ -9,7 +9,7 @@ returns c =
     let old : List ℕ = c.args.buffer.now in
     let given = c.new-memory.result.buffer in
     let last = c.write.new.self.buffer in
-    let name : last.name ≡ given.name =
+    let name : last.ghost_name ≡ given.ghost_name =
     same_name 4294967295 given.ghost_name last.ghost_name c.args.at c.args.value old given.now last.now c.new-memory.ensures.value c.write.ensures.beside in
     let content =
     written_back 4294967295 given.ghost_name last.ghost_name c.args.at c.args.value old given.now last.now c.new-memory.ensures.value c.write.ensures.beside c.write.ensures.after in
