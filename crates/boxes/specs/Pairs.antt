@@ -1,5 +1,5 @@
 -- Both boxes of one lane.
-use Rattle.std.specs.Prelude.{ℕ, cond, ltb, List, [], length, get_or, take, Some, None, Ok, Option, Result}
+use Rattle.std.specs.Prelude.{ℕ, List, [], Some, None, Ok, Option, Result}
 use Rattle.std.specs.Option as option
 use Rattle.std.specs.Result as result
 use Rattle.fault.specs.declared.fault.Fault.{Fault}

@@ -1,5 +1,5 @@
 -- A configuration box is accepted exactly if it is the writing of a well-formed configuration.
-use Rattle.std.proofs.Common.{◌≡◌, ℕ, ◌+◌, ◌-◌, ◌*◌, ◌^◌, ◌<◌, ◌≤◌, Bool, true, false, cond, eqb, leb, List, [], ◌∷◌, ◌++◌, map, length, get_or, take, replicate, Ok, Result, sym, refl, ap, ◌∙◌, subst, arith, lit<, lit≤, eq-eqb, eqb-true, le-leb, leb-true}
+use Rattle.std.proofs.Common.{◌≡◌, ℕ, ◌+◌, ◌-◌, ◌^◌, ◌<◌, ◌≤◌, Bool, true, false, cond, eqb, leb, List, [], ◌∷◌, ◌++◌, map, length, take, replicate, Ok, Result, sym, refl, ap, ◌∙◌, subst, arith, lit<, lit≤, eq-eqb, eqb-true, le-leb, leb-true}
 use borrow.Author.Tests.{eqb-false}
 use Rattle.std.proofs.lemmas.List.{map-id, length-append, length-replicate, length-take, length-take-le}
 use Rattle.std.specs.List.{flat_map, AllByRecursion}
@@ -8,7 +8,7 @@ use Rattle.fault.specs.declared.fault.Fault.{Fault}
 use Rattle.fault.specs.declared.layer.Layer.TheVariants.{ConfigurationBox}
 use Rattle.fault.specs.declared.reason.Reason.TheVariants.{Extent, Version}
 use Rattle.configuration.specs.Configurations.{uncc, opening_of, brief_of, listed_of, read_configuration}
-use Rattle.configuration.specs.Encoded.{entry_bytes, packing_bytes, sizes_bytes, listed, listing_bytes, version_bytes, configuration_body, configuration_bytes}
+use Rattle.configuration.specs.Encoded.{entry_bytes, packing_bytes, sizes_bytes, listed, listing_bytes, version_bytes, configuration_bytes}
 use Rattle.configuration.specs.Entries.{blank, entry_at, entries_of}
 use Rattle.configuration.specs.Chosen.{reserved_at}
 use Rattle.fields.specs.Field.{then, check, accepted, field, byte, three, byte_at, word_at}
@@ -16,19 +16,18 @@ use Rattle.fields.specs.Header.{header_of, count_at, end_at}
 use Rattle.fields.specs.Items.{items_from, padded, tabled}
 use Rattle.configuration.specs.Listings.{packing_at, sizes_at, listing_of}
 use Rattle.configuration.specs.Profiles.{profile_of, profile_word}
-use Rattle.fields.specs.Put.{word_bytes, boxed}
+use Rattle.fields.specs.Put.{word_bytes}
 use Rattle.configuration.specs.RoundTrip.{WellEntered, WellListed, WellConfigured, ConfigurationExact, ConfigurationBack}
 use Rattle.configuration.specs.declared.configuration.Configuration.{Configuration}
 use Rattle.configuration.specs.declared.configuration.Configuration.TheVariants.{Listed, Brief}
 use Rattle.configuration.specs.declared.configuration.Opening.{Opening}
-use Rattle.configuration.specs.declared.entry.Entry.{Entry}
 use Rattle.configuration.specs.declared.listing.Listing.{Listing}
 use Rattle.configuration.specs.declared.profile.Profile.{Profile}
 use Rattle.configuration.specs.declared.profile.Profile.TheVariants.{Rgb3, Rgba, Abgr}
 use Rattle.fields.proofs.Chains.{then_ok, then_go, ok_same, check_ok, check_go, accepted_ok, accepted_go, field_ok, field_go}
 use Rattle.configuration.proofs.Entering.{length_entries, length-listing}
 use Rattle.configuration.proofs.Listable.{itself, four, known, nth, entry-stands, entry_read, packing-found, packing_read, sizes-found, sizes_read}
-use Rattle.fields.proofs.Lists.{Elements, items_stand, items_read}
+use Rattle.fields.proofs.Lists.{items_stand, items_read}
 use Rattle.configuration.proofs.Numbering.{profile_word_lem, word_profile}
 use Rattle.fields.proofs.Opening.{Head, take-padded, opened, closed, header_read, header-found, word_read, word-found, count_read, count-found}
 use Rattle.fields.proofs.Standing.{Stands, Bytes, octets, join, first, second}

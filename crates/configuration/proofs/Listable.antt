@@ -1,32 +1,25 @@
 -- What a configuration box of version 0 holds stands there as it is written, and what is written is read.
-use Rattle.std.proofs.Common.{◌≡◌, ℕ, ◌+◌, ◌*◌, ◌^◌, ◌<◌, ◌≤◌, true, leb, List, [], ◌∷◌, ◌++◌, map, length, get_or, take, Ok, sym, refl, ap, ◌∙◌, subst, arith, le-leb, leb-true}
-use Rattle.std.proofs.lemmas.List.{map-id}
-use Rattle.std.specs.List.{flat_map}
-use Rattle.fault.specs.Faults.{fault}
+use Rattle.std.proofs.Common.{◌≡◌, ℕ, ◌+◌, ◌<◌, ◌≤◌, List, [], ◌∷◌, ◌++◌, length, get_or, Ok, refl, subst, arith}
 use Rattle.fault.specs.declared.layer.Layer.TheVariants.{ConfigurationBox}
-use Rattle.fault.specs.declared.reason.Reason.TheVariants.{Extent}
 use Rattle.choices.specs.Choices.{format_of, format_number, sampling_of, sampling_number, interleave_of, interleave_number}
 use Rattle.configuration.specs.Chosen.{choice_at}
-use Rattle.configuration.specs.Encoded.{entry_bytes, packing_bytes, sizes_bytes, listed, listing_bytes, version_bytes}
-use Rattle.configuration.specs.Entries.{blank, entry_at, entries_of}
-use Rattle.fields.specs.Field.{then, byte, half, byte_at, half_at, word_at}
+use Rattle.configuration.specs.Encoded.{entry_bytes, packing_bytes, sizes_bytes}
+use Rattle.configuration.specs.Entries.{entry_at}
+use Rattle.fields.specs.Field.{byte, half, byte_at, half_at, word_at}
 use Rattle.choices.specs.Flags.{flags_of, flags_byte}
-use Rattle.fields.specs.Header.{count_at, end_at}
-use Rattle.fields.specs.Items.{items_from, padded, tabled}
-use Rattle.configuration.specs.Listings.{packing_at, sizes_at, listing_of}
+use Rattle.configuration.specs.Listings.{packing_at, sizes_at}
 use Rattle.fields.specs.Put.{half_bytes, word_bytes}
-use Rattle.configuration.specs.RoundTrip.{WellEntered, WellSized, WellListed}
+use Rattle.configuration.specs.RoundTrip.{WellEntered, WellSized}
 use Rattle.configuration.specs.declared.entry.Entry.{Entry}
 use Rattle.fields.specs.declared.item.Item.{Item}
-use Rattle.configuration.specs.declared.listing.Listing.{Listing}
 use Rattle.configuration.specs.declared.listing.Packing.{Packing}
 use Rattle.configuration.specs.declared.listing.Sizes.{Sizes}
 use Rattle.configuration.proofs.Choosing.{choice_ok, choice_go}
-use Rattle.fields.proofs.Chains.{then_ok, then_go, ok_same, check_ok, check_go, field_ok, field_go}
-use Rattle.fields.proofs.Lists.{Element, Elements, Read, Reads, items_stand, items_read}
+use Rattle.fields.proofs.Chains.{then_ok, then_go, ok_same, field_ok, field_go}
+use Rattle.fields.proofs.Lists.{Element, Read}
 use Rattle.choices.proofs.Numbering.{format_number_lem, number_format, sampling_number_lem, number_sampling, interleave_number_lem, number_interleave, flags_number, number_flags}
-use Rattle.fields.proofs.Opening.{take-padded, word_read, word-found, count_read, count-found}
-use Rattle.fields.proofs.Standing.{Stands, Bytes, join, first, second, tail, byte_is, byte_stands, half_is, half-stands}
+use Rattle.fields.proofs.Opening.{word_read, word-found}
+use Rattle.fields.proofs.Standing.{Stands, Bytes, join, first, second, byte_is, byte_stands, half_is, half-stands}
 
 -- an entry is seen as it is
 abbrev pub itself : Entry → Entry

@@ -8,17 +8,15 @@ use Rattle.fault.specs.declared.reason.Reason.TheVariants.{Extent}
 use Rattle.definition.specs.Components.{plain, component_at, components_of}
 use Rattle.definition.specs.Definitions.{cmpd, read_definition}
 use Rattle.definition.specs.Encoded.{Described, described, described_bytes, defined_by, definition_bytes}
-use Rattle.fields.specs.Field.{then}
 use Rattle.fields.specs.Header.{header_of, count_at, end_at}
 use Rattle.fields.specs.Items.{items_from, padded, tabled}
-use Rattle.fields.specs.Put.{word_bytes, boxed}
+use Rattle.fields.specs.Put.{word_bytes}
 use Rattle.definition.specs.RoundTrip.{WellDescribed, WellDefined, DefinitionExact, DefinitionBack}
 use Rattle.definition.specs.declared.component.Component.{Component}
 use Rattle.definition.specs.declared.definition.Components.{Components}
-use Rattle.fields.specs.declared.item.Item.{Item}
 use Rattle.fields.proofs.Chains.{then_ok, then_go, ok_same, check_ok, check_go}
 use Rattle.definition.proofs.Defining.{component-stands, component_read}
-use Rattle.fields.proofs.Lists.{Elements, Reads, items_stand, items_read}
+use Rattle.fields.proofs.Lists.{Elements, items_stand, items_read}
 use Rattle.fields.proofs.Opening.{Head, take-padded, opened, closed, header_read, header-found, count_read, count-found}
 use Rattle.fields.proofs.Standing.{Stands, Bytes, octets, join, first, second}
 

@@ -1,11 +1,11 @@
 -- The header and the count of a box stand there as they are written, and what is written is read.
-use Rattle.std.proofs.Common.{◌≡◌, ℕ, ◌+◌, ◌^◌, ◌<◌, ◌≤◌, true, ◌&&◌, eqb, leb, List, ◌++◌, length, get_or, take, Ok, sym, refl, ap, ◌∙◌, subst, arith, eq-eqb, eqb-true}
+use Rattle.std.proofs.Common.{◌≡◌, ℕ, ◌+◌, ◌^◌, ◌<◌, ◌≤◌, true, ◌&&◌, eqb, leb, List, ◌++◌, length, take, Ok, refl, ap, ◌∙◌, subst, arith, eq-eqb, eqb-true}
 use Rattle.std.proofs.lemmas.List.{take_at}
 use Rattle.std.proofs.lemmas.Bool.Decides.{nat_tests}
 use Rattle.fault.specs.Faults.{fault}
 use Rattle.fault.specs.declared.layer.Layer.{Layer}
 use Rattle.fault.specs.declared.reason.Reason.TheVariants.{Extent, BoxType, Count}
-use Rattle.fields.specs.Field.{then, check, word, word_at}
+use Rattle.fields.specs.Field.{check, word, word_at}
 use Rattle.fields.specs.Header.{header_of, count_at}
 use Rattle.fields.specs.Items.{padded}
 use Rattle.fields.specs.Put.{word_bytes, boxed}

@@ -3,7 +3,7 @@ use Rattle.std.proofs.Common.{◌≡◌, ℕ, zero, suc, ◌+◌, ◌-◌, ◌<�
 use Rattle.std.specs.Option as option
 use Rattle.std.proofs.lemmas.List.{at_drop_more, at_drop_all}
 use Rattle.std.proofs.lemmas.Bool.{cond-true, cond-false, eq-eqb, ne_eqb, eqb-true, eqb-false}
-use Rattle.placement.specs.Place.{Slot, times, nth}
+use Rattle.placement.specs.Place.{times, nth}
 use Rattle.plans.specs.Cells.{slot_of}
 use Rattle.plans.specs.Entries.{no_entry, position_with}
 use Rattle.plans.specs.declared.entry.Entry.{Entry}

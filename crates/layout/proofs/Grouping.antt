@@ -1,7 +1,7 @@
 -- Which entries a group has.
-use Rattle.std.proofs.Common.{◌≡◌, ℕ, ◌+◌, ◌-◌, ◌*◌, ◌/◌, ◌<◌, ◌≤◌, min, List, [], ◌∷◌, map, length, get_or, take, drop, sym, refl, ap, ◌∙◌, subst, div-le_self, arith}
+use Rattle.std.proofs.Common.{◌≡◌, ℕ, ◌+◌, ◌-◌, ◌/◌, ◌<◌, ◌≤◌, List, [], ◌∷◌, map, length, get_or, take, drop, sym, refl, ap, ◌∙◌, arith}
 use Rattle.std.proofs.ByRecursion.{All-take, All-drop}
-use Rattle.std.proofs.lemmas.List.{length-take, length-drop, length-map, get_or-take, get_or-map, drop_more, drop-take, take-take}
+use Rattle.std.proofs.lemmas.List.{length-take, length-drop, get_or-take, get_or-map, drop_more, drop-take, take-take}
 use Rattle.placement.specs.Pack.{Cell}
 use Rattle.placement.specs.Place.{Strip, no_strip, strip, cells}
 use Rattle.plans.specs.Cells.{cell_of, slot_of}

@@ -1,19 +1,17 @@
 -- What locating answers, and the law that no two values share a bit.
-use Rattle.std.proofs.Common.{◌≡◌, ℕ, ◌+◌, ◌-◌, ◌*◌, ◌/◌, ◌%◌, ◌<◌, ◌≤◌, Bool, true, false, cond, ltb, ◌↔◌, length, get_or, is_ok, Some, None, Ok, Err, Option, Result, sym, refl, ap, ◌∙◌, subst, arith}
-use Rattle.std.proofs.lemmas.Bool.{cond-true, cond-false, ltb-true, lt-ltb, le-ltb}
+use Rattle.std.proofs.Common.{◌≡◌, ℕ, ◌-◌, ◌*◌, ◌/◌, ◌%◌, ◌<◌, ◌≤◌, Bool, true, false, cond, ltb, is_ok, Some, Ok, Err, Result, sym, refl, ap, ◌∙◌, subst, arith}
+use Rattle.std.proofs.lemmas.Bool.{ltb-true, lt-ltb, le-ltb}
 use Rattle.fault.specs.declared.fault.Fault.{Fault}
 use Rattle.fields.specs.Field.{then, check, accepted}
 use Rattle.fields.proofs.Chains.{then_ok, check_ok, accepted_ok}
-use Rattle.placement.specs.Grid.{frame_bytes}
-use Rattle.placement.specs.Place.{grid, home, wide, high, depth_of, word_of, Valid, PlanSound}
-use Rattle.placement.specs.Word.{Word, spot}
+use Rattle.placement.specs.Place.{home, wide, high, depth_of, word_of, Valid, PlanSound}
+use Rattle.placement.specs.Word.{spot}
 use Rattle.placement.specs.declared.place.Place.{Place}
 use Rattle.placement.proofs.Places.{plans_sound}
-use Rattle.plans.specs.Entries.{no_entry, position_with}
+use Rattle.plans.specs.Entries.{position_with}
 use Rattle.plans.specs.Facts.{Facts, Gridded}
-use Rattle.layout.specs.Locating.{missing, entry_at, found_at, byte_of, bit_of, locate_answer, Has, Share, Apart}
-use Rattle.plans.specs.Views.{View, plan_of, strips_by, size_of}
-use Rattle.plans.specs.declared.entry.Entry.{Entry}
+use Rattle.layout.specs.Locating.{missing, entry_at, found_at, byte_of, bit_of, locate_answer, Has, Apart}
+use Rattle.plans.specs.Views.{View, plan_of, size_of}
 use Rattle.layout.proofs.Finding.{first}
 
 -- the frame has the place, and its component is listed first at n

@@ -1,5 +1,5 @@
 -- What a layout is made of keeps the rules.
-use Rattle.std.proofs.Common.{◌≡◌, ℕ, ◌<◌, ◌≤◌, Bool, true, false, ◌&&◌, leb, length, is_some, Ok, Err, Result, sym, refl, ap, ◌∙◌, arith}
+use Rattle.std.proofs.Common.{◌≡◌, ℕ, ◌<◌, ◌≤◌, Bool, true, false, ◌&&◌, leb, length, is_some, Ok, Err, Result, refl, ap, ◌∙◌}
 use Rattle.std.proofs.lemmas.Bool.{le-leb, lt-leb}
 use Rattle.fault.specs.declared.fault.Fault.{Fault}
 use Rattle.fault.specs.declared.reason.Reason.TheVariants.{Presence, Dimensions, FrameSize}
@@ -12,7 +12,7 @@ use Rattle.boxes.specs.declared.boxes.Boxes.{Boxes}
 use Rattle.rules.specs.Rules.{broken}
 use Rattle.rules.specs.Tiles.{side_fits}
 use Rattle.rules.specs.Whole.{present_as, kept}
-use Rattle.plans.specs.Views.{View, size_of, view_by, view_for, layout_answer, Accepted}
+use Rattle.plans.specs.Views.{size_of, view_for, layout_answer, Accepted}
 
 pub accepted_by : (b : Boxes) (w h : ℕ) → length (listed (listing_for b.configuration)) ≤ 16 → kept b w h ≡ Ok tt → Accepted (view_for b w h)
 accepted_by b w h few e =

@@ -1,12 +1,11 @@
 -- A place in the numbers of its group.
-use Rattle.std.proofs.Common.{◌≡◌, ℕ, suc, ◌+◌, ◌-◌, ◌*◌, ◌/◌, ◌%◌, ◌<◌, ◌≤◌, Bool, true, false, cond, eqb, List, [], ◌∷◌, map, length, get_or, take, drop, sym, refl, ap, ◌∙◌, subst, mul-le-mul, div-le_self, arith}
-use Rattle.std.proofs.lemmas.List.{length-map, length-take, length-drop}
+use Rattle.std.proofs.Common.{◌≡◌, ℕ, suc, ◌+◌, ◌-◌, ◌*◌, ◌≤◌, Bool, true, false, cond, eqb, List, [], ◌∷◌, map, length, take, drop, ap, ◌∙◌, arith}
+use Rattle.std.proofs.lemmas.List.{length-take, length-drop}
 use Rattle.placement.specs.Place.{Slot, Strip, times, home, often, wide, high, strip}
 use Rattle.placement.specs.declared.place.Place.{Place}
 use Rattle.plans.specs.Cells.{slot_of}
 use Rattle.layout.specs.Coordinates.{Grouped}
 use Rattle.plans.specs.Facts.{Facts}
-use Rattle.layout.specs.Parts.{strip_in, Within}
 use Rattle.plans.specs.Views.{View, plan_of}
 use Rattle.plans.specs.declared.entry.Entry.{Entry}
 use Rattle.layout.specs.declared.group.Group.{Group}

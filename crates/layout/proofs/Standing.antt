@@ -2,7 +2,7 @@
 use mathlib.Core.Logic.{∥∥₁_elim}
 use Rattle.plans.specs.Facts.{Facts}
 use Rattle.layout.specs.Layouts.{shown}
-use Rattle.layout.specs.Parts.{view_of, Held}
+use Rattle.layout.specs.Parts.{Held}
 use Rattle.layout.specs.declared.layout.Layout.{Layout}
 use Rattle.plans.proofs.Deriving.{facts_of, facts_prop}
 

@@ -1,5 +1,5 @@
 -- Where lines begin stays small.
-use Rattle.std.proofs.Common.{◌≡◌, ℕ, suc, ◌+◌, ◌*◌, ◌^◌, ◌<◌, ◌≤◌, sym, ap, ◌∙◌, subst, mul-le-mul_right, mul-le-mul, arith}
+use Rattle.std.proofs.Common.{◌≡◌, ℕ, suc, ◌+◌, ◌*◌, ◌^◌, ◌<◌, ◌≤◌, ap, ◌∙◌, mul-le-mul_right, mul-le-mul, arith}
 use Rattle.placement.specs.Grid.{summed}
 use Rattle.placement.proofs.Boxes.{summed_mono}
 

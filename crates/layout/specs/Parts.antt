@@ -1,7 +1,5 @@
 -- What the parts of a layout show.
-use Rattle.std.specs.Prelude.{◌≡◌, ℕ, ◌-◌, ◌≤◌, map, length, take, drop, Result}
-use Rattle.std.specs.Result as result
-use Rattle.fault.specs.declared.fault.Fault.{Fault}
+use Rattle.std.specs.Prelude.{◌≡◌, ◌-◌, ◌≤◌, map, length, take, drop}
 use Rattle.placement.specs.Place.{Strip}
 use Rattle.plans.specs.Cells.{slot_of}
 use Rattle.plans.specs.Facts.{Facts}

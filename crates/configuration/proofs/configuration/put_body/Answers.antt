@@ -1,4 +1,4 @@
-use Rattle.std.proofs.Common.{◌≡◌, length, sym, refl, ap, ◌∙◌, arith}
+use Rattle.std.proofs.Common.{length, sym, refl, ap, ◌∙◌, arith}
 use Rattle.configuration.specs.Encoded.{configuration_body, configuration_bytes, version_bytes}
 use Rattle.configuration.specs.Profiles.{profile_word}
 use Rattle.fields.specs.Put.{placed, put_at, word_bytes}

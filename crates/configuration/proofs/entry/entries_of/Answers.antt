@@ -1,4 +1,4 @@
-use Rattle.std.proofs.Common.{take, sym, refl, ap, ◌∙◌, arith, rules}
+use Rattle.std.proofs.Common.{take, sym, ◌∙◌, arith, rules}
 use Rattle.std.proofs.lemmas.List.{length-set}
 use Rattle.configuration.specs.Entries.{entry_at, blank}
 use Rattle.fields.proofs.Tables.{turn-stops, turn-goes, sofar_more, finished}

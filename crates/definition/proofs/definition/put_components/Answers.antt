@@ -1,4 +1,4 @@
-use Rattle.std.proofs.Common.{◌≡◌, ◌+◌, length, get_or, sym, ap, ◌∙◌, arith}
+use Rattle.std.proofs.Common.{◌+◌, length, get_or, sym, ap, ◌∙◌, arith}
 use Rattle.definition.specs.Components.{plain}
 use Rattle.definition.specs.Encoded.{described, described_bytes}
 use Rattle.fields.specs.Put.{placed}

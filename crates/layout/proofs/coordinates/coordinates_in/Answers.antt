@@ -1,7 +1,7 @@
-use Rattle.std.proofs.Common.{◌≡◌, ℕ, ◌+◌, ◌*◌, ◌/◌, ◌%◌, ◌<◌, ◌≤◌, sym, refl, ap, ◌∙◌, subst, mod-lt, mul-le-mul, arith}
+use Rattle.std.proofs.Common.{ℕ, ◌+◌, ◌*◌, ◌/◌, ◌%◌, ◌<◌, ◌≤◌, sym, ap, ◌∙◌, subst, mod-lt, mul-le-mul, arith}
 use Rattle.std.proofs.lemmas.Nat.{div_below}
-use Rattle.placement.specs.Place.{home, often, wide, high, strip, nth}
-use Rattle.placement.proofs.Places.{often_pos, wide_pos, high_pos, across}
+use Rattle.placement.specs.Place.{home, wide, high, strip, nth}
+use Rattle.placement.proofs.Places.{often_pos, wide_pos, high_pos}
 use Rattle.layout.specs.Parts.{view_of}
 use Rattle.plans.specs.Views.{plan_of}
 use Rattle.layout.proofs.Placing.{wide_is, rows_is}

@@ -1,9 +1,8 @@
-use Rattle.std.proofs.Common.{◌≡◌, ℕ, ◌<◌, length, get_or, sym, ap, ◌∙◌, arith}
+use Rattle.std.proofs.Common.{ℕ, ap, ◌∙◌, arith}
 use Rattle.placement.specs.Place.{home, strip}
 use Rattle.plans.specs.Entries.{position_with}
-use Rattle.layout.specs.Locating.{entry_at}
-use Rattle.layout.specs.Parts.{view_of, strip_in}
-use Rattle.plans.specs.Views.{plan_of, strips_by}
+use Rattle.layout.specs.Parts.{view_of}
+use Rattle.plans.specs.Views.{plan_of}
 use Rattle.layout.proofs.Finding.{first}
 use Rattle.layout.proofs.coordinates.coordinates_of.Goals as goal
 

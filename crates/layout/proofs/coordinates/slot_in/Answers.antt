@@ -1,4 +1,4 @@
-use Rattle.std.proofs.Common.{◌≡◌, ℕ, ◌<◌, sym, ◌∙◌, subst}
+use Rattle.std.proofs.Common.{ℕ, ◌<◌, sym, ◌∙◌, subst}
 use Rattle.placement.specs.Place.{times, nth}
 use Rattle.layout.specs.Parts.{view_of}
 use Rattle.layout.proofs.Placing.{by_cycle}

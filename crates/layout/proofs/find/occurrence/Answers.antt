@@ -1,5 +1,5 @@
-use Rattle.std.proofs.Common.{◌≡◌, ℕ, suc, ◌+◌, ◌-◌, ◌<◌, ◌≤◌, map, length, drop, sym, ap, ◌∙◌, arith}
-use Rattle.placement.specs.Place.{times, nth}
+use Rattle.std.proofs.Common.{◌≡◌, ℕ, ◌+◌, ◌<◌, map, drop, ap, ◌∙◌, arith}
+use Rattle.placement.specs.Place.{nth}
 use Rattle.plans.specs.Cells.{slot_of}
 use Rattle.layout.proofs.Finding.{times_hit, times_more, times_all, nth_hit, nth_next, nth_more}
 use Rattle.layout.proofs.find.occurrence.Goals as goal

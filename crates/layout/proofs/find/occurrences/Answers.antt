@@ -1,6 +1,4 @@
-use Rattle.std.proofs.Common.{◌≡◌, ◌+◌, ◌≤◌, map, drop, arith}
-use Rattle.placement.specs.Place.{times}
-use Rattle.plans.specs.Cells.{slot_of}
+use Rattle.std.proofs.Common.{arith}
 use Rattle.layout.proofs.Finding.{times_hit, times_more, times_all}
 use Rattle.layout.proofs.find.occurrences.Goals as goal
 use Rattle.layout.proofs.find.occurrences.Goals.{then-cycle-i, else-cycle-i}

@@ -1,4 +1,4 @@
-use Rattle.std.proofs.Common.{◌≡◌, sym, ◌∙◌, arith}
+use Rattle.std.proofs.Common.{sym, ◌∙◌, arith}
 use Rattle.plans.specs.Entries.{position_with}
 use Rattle.layout.proofs.Finding.{shifted_none, position_hit, position_more, position_all}
 use Rattle.layout.proofs.find.position.Goals as goal

@@ -1,8 +1,7 @@
-use Rattle.std.proofs.Common.{◌≡◌, ℕ, ◌/◌, ◌<◌, ◌≤◌, length, get_or, refl, ap, subst, div-le_self, arith}
+use Rattle.std.proofs.Common.{get_or, refl, ap, div-le_self, arith}
 use Rattle.plans.specs.Entries.{no_entry}
-use Rattle.layout.specs.Parts.{view_of}
 use Rattle.plans.specs.declared.entry.Entry.{Entry}
-use Rattle.layout.proofs.Grouping.{alone-strip, table_at, table_length}
+use Rattle.layout.proofs.Grouping.{alone-strip, table_at}
 use Rattle.layout.proofs.group.alone.Goals as goal
 
 pub returns : goal.returns

@@ -1,4 +1,4 @@
-use Rattle.std.proofs.Common.{◌≡◌, ℕ, ◌-◌, sym, ◌∙◌, arith}
+use Rattle.std.proofs.Common.{◌-◌, sym, arith}
 use Rattle.layout.proofs.Grouping.{part}
 use Rattle.layout.proofs.group.cycle.Goals as goal
 

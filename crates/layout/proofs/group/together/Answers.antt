@@ -1,9 +1,8 @@
-use Rattle.std.proofs.Common.{ℕ, ◌-◌, List, map, take, drop, sym, refl, ap, ◌∙◌, arith}
+use Rattle.std.proofs.Common.{◌-◌, map, refl, ap, arith}
 use Rattle.std.proofs.lemmas.List.{take_all}
 use Rattle.plans.specs.Cells.{slot_of}
 use Rattle.layout.specs.Parts.{view_of}
 use Rattle.plans.specs.Views.{together}
-use Rattle.plans.specs.declared.entry.Entry.{Entry}
 use Rattle.layout.proofs.Grouping.{strip_same}
 use Rattle.layout.proofs.group.together.Goals as goal
 

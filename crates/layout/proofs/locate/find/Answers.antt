@@ -1,5 +1,4 @@
-use Rattle.std.proofs.Common.{◌≡◌, length, sym, ap, ◌∙◌, arith}
-use Rattle.layout.specs.Parts.{view_of}
+use Rattle.std.proofs.Common.{length, sym, ap, arith}
 use Rattle.layout.proofs.Finding.{first}
 use Rattle.layout.proofs.locate.find.Goals as goal
 

@@ -1,15 +1,14 @@
-use Rattle.std.proofs.Common.{◌≡◌, ℕ, ◌-◌, ◌/◌, ◌%◌, ◌<◌, ◌≤◌, length, get_or, Ok, Err, Result, sym, refl, ap, ◌∙◌, subst, arith}
+use Rattle.std.proofs.Common.{◌≡◌, ℕ, ◌-◌, ◌/◌, ◌%◌, ◌<◌, Ok, Err, Result, sym, ap, ◌∙◌, subst, arith}
 use Rattle.fault.specs.declared.fault.Fault.{Fault}
 use Rattle.placement.specs.Word.{Word, Whole, spot}
 use Rattle.placement.specs.Place.{depth_of, word_of}
 use Rattle.placement.proofs.Words.{words_stand}
-use Rattle.plans.specs.Entries.{no_entry}
 use Rattle.layout.specs.Parts.{view_of}
 use Rattle.plans.specs.Views.{plan_of}
 use Rattle.plans.specs.declared.entry.Entry.{Entry}
 use Rattle.layout.proofs.Finding.{first}
 use Rattle.layout.proofs.Grouping.{table_at}
-use Rattle.layout.proofs.Located.{Found, found, valid, deep, sound, locate_refused, locate_found}
+use Rattle.layout.proofs.Located.{found, valid, deep, sound, locate_refused, locate_found}
 use Rattle.layout.proofs.locate.locate_in.Goals as goal
 
 pub bounds-parts-position : goal.bounds-parts-position

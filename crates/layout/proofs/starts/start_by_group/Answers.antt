@@ -1,4 +1,4 @@
-use Rattle.std.proofs.Common.{◌≡◌, ℕ, ◌+◌, ◌*◌, ◌^◌, ◌≤◌, ap, ◌∙◌, mul-le-mul, arith}
+use Rattle.std.proofs.Common.{ℕ, ◌+◌, ◌*◌, mul-le-mul, arith}
 use Rattle.layout.specs.Parts.{view_of}
 use Rattle.layout.proofs.Starting.{tiles_below, three}
 use Rattle.layout.proofs.Summing.{groups_few}

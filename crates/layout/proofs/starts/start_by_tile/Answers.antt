@@ -1,5 +1,5 @@
-use Rattle.std.proofs.Common.{◌≡◌, ℕ, ◌+◌, ◌*◌, ◌^◌, ◌≤◌, length, ap, ◌∙◌, mul-le-mul, arith}
-use Rattle.placement.specs.Grid.{summed, by_tile, tile_of}
+use Rattle.std.proofs.Common.{ℕ, ◌+◌, ◌*◌, length, mul-le-mul, arith}
+use Rattle.placement.specs.Grid.{by_tile, tile_of}
 use Rattle.placement.specs.Place.{grid}
 use Rattle.layout.specs.Parts.{view_of}
 use Rattle.plans.specs.Views.{plan_of, strips_by}

@@ -1,4 +1,4 @@
-use Rattle.std.proofs.Common.{◌≡◌, ◌+◌, ◌*◌, ◌^◌, ◌≤◌, arith}
+use Rattle.std.proofs.Common.{◌^◌, arith}
 use Rattle.placement.specs.Grid.{area}
 use Rattle.placement.specs.Place.{grid}
 use Rattle.layout.specs.Parts.{view_of}

@@ -1,7 +1,7 @@
-use Rattle.std.proofs.Common.{◌≡◌, ℕ, zero, suc, List, [], ◌∷◌, length, get_or, sym, ap, arith}
-use Rattle.placement.specs.Place.{Strip, no_strip, strip}
+use Rattle.std.proofs.Common.{◌≡◌, List, [], ◌∷◌, length, get_or, arith}
+use Rattle.placement.specs.Place.{Strip, no_strip}
 use Rattle.layout.specs.Parts.{view_of}
-use Rattle.plans.specs.Views.{strips_by, plan_of}
+use Rattle.plans.specs.Views.{strips_by}
 use Rattle.layout.proofs.sums.first_rows.Goals as goal
 
 none : (ss : List Strip) → length ss ≡ 0 → 0 ≡ (get_or ss 0 no_strip).rows

@@ -1,4 +1,4 @@
-use Rattle.std.proofs.Common.{◌≡◌, ℕ, List, map, sym, ap, ◌∙◌, subst}
+use Rattle.std.proofs.Common.{List, map, sym, ap, ◌∙◌, subst}
 use Rattle.placement.specs.Line.{line_bytes}
 use Rattle.plans.specs.Cells.{cell_of, packing_of}
 use Rattle.plans.specs.Fit.{Fitting}

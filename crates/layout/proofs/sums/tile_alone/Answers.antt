@@ -1,4 +1,4 @@
-use Rattle.std.proofs.Common.{◌≡◌, ℕ, ap, ◌∙◌, arith}
+use Rattle.std.proofs.Common.{ℕ, ap, ◌∙◌, arith}
 use Rattle.placement.specs.Line.{up_to}
 use Rattle.layout.proofs.sums.tile_alone.Goals as goal
 

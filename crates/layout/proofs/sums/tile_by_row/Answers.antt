@@ -1,4 +1,4 @@
-use Rattle.std.proofs.Common.{◌≡◌, ℕ, ◌*◌, ◌^◌, ◌≤◌, ap, ◌∙◌, mul-le-mul, arith}
+use Rattle.std.proofs.Common.{ℕ, ◌*◌, ◌^◌, ◌≤◌, ap, ◌∙◌, mul-le-mul, arith}
 use Rattle.placement.specs.Grid.{summed, line}
 use Rattle.placement.specs.Line.{up_to}
 use Rattle.placement.specs.Place.{grid}

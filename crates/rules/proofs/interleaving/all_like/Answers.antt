@@ -1,8 +1,6 @@
 use Rattle.std.proofs.Common.{sym, ◌∙◌, arith}
-use Rattle.rules.specs.Rules.{each}
 use Rattle.rules.proofs.Keeping.{holds_on, fails, holds}
-use Rattle.boxes.specs.Pairs.{type_of}
-use Rattle.rules.specs.Interleaving.{same_of, is_yuv, alike}
+use Rattle.rules.specs.Interleaving.{alike}
 use Rattle.rules.proofs.interleaving.all_like.Goals as goal
 
 pub loop-i-preserved : goal.loop-i-preserved

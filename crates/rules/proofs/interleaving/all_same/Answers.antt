@@ -2,7 +2,7 @@ use Rattle.std.proofs.Common.{sym, ◌∙◌, arith}
 use Rattle.rules.specs.Rules.{each}
 use Rattle.rules.proofs.Keeping.{holds_on, fails, holds}
 use Rattle.boxes.specs.Pairs.{type_of}
-use Rattle.rules.specs.Interleaving.{same_of, is_yuv, alike}
+use Rattle.rules.specs.Interleaving.{same_of}
 use Rattle.rules.proofs.interleaving.all_same.Goals as goal
 
 pub loop-i-preserved : goal.loop-i-preserved

@@ -2,7 +2,7 @@ use Rattle.std.proofs.Common.{◌≡◌}
 use Rattle.rules.specs.Rules.{each}
 use Rattle.rules.proofs.Keeping.{rest}
 use Rattle.boxes.specs.Pairs.{type_of}
-use Rattle.rules.specs.Interleaving.{same_of, is_yuv, alike}
+use Rattle.rules.specs.Interleaving.{same_of}
 use Rattle.rules.proofs.interleaving.all_same.Given as goal
 
 abbrev pub invariant-loop-i : goal.invariant-loop-i

@@ -1,4 +1,4 @@
-use Rattle.std.proofs.Common.{◌≡◌, length, sym, ap, ◌∙◌, arith}
+use Rattle.std.proofs.Common.{length, ap, arith}
 use Rattle.configuration.specs.Encoded.{configuration_bytes}
 use Rattle.configuration.proofs.Entering.{length-listing}
 use Rattle.configuration.proofs.configuration.Configuration.size.Goals as goal

@@ -1,4 +1,4 @@
-use Rattle.std.proofs.Common.{◌++◌, length, Err, ap, ◌∙◌, arith}
+use Rattle.std.proofs.Common.{◌++◌, Err, ap, ◌∙◌, arith}
 use Rattle.fault.specs.declared.layer.Layer.TheVariants.{ConfigurationBox}
 use Rattle.configuration.specs.Configurations.{uncc}
 use Rattle.configuration.specs.Encoded.{configuration_body, configuration_bytes}

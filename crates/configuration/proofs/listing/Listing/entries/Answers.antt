@@ -1,4 +1,4 @@
-use Rattle.std.proofs.Common.{◌≡◌, ◌-◌, min, length, take, sym, ap, ◌∙◌, arith, rules}
+use Rattle.std.proofs.Common.{◌≡◌, ◌-◌, min, take, ap, ◌∙◌, arith, rules}
 use Rattle.fields.proofs.Tables.{take_min}
 use Rattle.configuration.proofs.listing.Listing.entries.Goals as goal
 

@@ -1,7 +1,7 @@
-use Rattle.std.proofs.Common.{◌≡◌, ◌+◌, ◌*◌, ◌++◌, length, sym, refl, ap, ◌∙◌, arith}
+use Rattle.std.proofs.Common.{◌≡◌, ◌+◌, ◌*◌, ◌++◌, length, refl, ap, ◌∙◌, arith}
 use Rattle.std.proofs.lemmas.List.{length-append}
 use Rattle.std.specs.List.{flat_map}
-use Rattle.configuration.specs.Encoded.{listed, entry_bytes, packing_bytes, sizes_bytes, version_bytes, listing_bytes}
+use Rattle.configuration.specs.Encoded.{listed, entry_bytes, packing_bytes, sizes_bytes, version_bytes}
 use Rattle.fields.specs.Put.{placed, word_bytes}
 use Rattle.configuration.proofs.Entering.{length_entries}
 use Rattle.fields.proofs.Placing.{put-placed, then-placed, then-put}

@@ -1,4 +1,4 @@
-use Rattle.std.proofs.Common.{◌≡◌, ◌+◌, [], ◌∷◌, ◌++◌, length, sym, refl, ap, ◌∙◌, subst, arith, rules}
+use Rattle.std.proofs.Common.{◌+◌, [], ◌∷◌, ◌++◌, length, sym, ap, ◌∙◌, arith}
 use Rattle.fields.specs.Put.{placed, half_bytes}
 use Rattle.definition.proofs.Describing.{with_uri, without_uri, length_with_uri}
 use Rattle.fields.proofs.Placing.{put-placed, then-put}

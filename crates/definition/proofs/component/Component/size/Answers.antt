@@ -1,5 +1,4 @@
-use Rattle.std.proofs.Common.{◌≡◌, length, sym, ap, ◌∙◌, arith}
-use Rattle.definition.specs.Components.{part}
+use Rattle.std.proofs.Common.{length, ap, arith}
 use Rattle.definition.proofs.Describing.{length_with_uri}
 use Rattle.definition.proofs.component.Component.size.Goals as goal
 

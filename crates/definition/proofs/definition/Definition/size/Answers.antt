@@ -1,7 +1,7 @@
-use Rattle.std.proofs.Common.{◌≡◌, ◌+◌, ◌≤◌, map, length, sym, ap, ◌∙◌, arith}
+use Rattle.std.proofs.Common.{map, length, ap, arith}
 use Rattle.std.specs.List.{flat_map}
 use Rattle.definition.specs.Encoded.{described, described_bytes}
-use Rattle.definition.proofs.Describing.{firsts, length_firsts_more, firsts_all}
+use Rattle.definition.proofs.Describing.{length_firsts_more, firsts_all}
 use Rattle.definition.proofs.definition.Definition.size.Goals as goal
 
 pub overflow_add-size : goal.overflow_add-size

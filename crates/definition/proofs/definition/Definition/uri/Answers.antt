@@ -1,4 +1,4 @@
-use Rattle.std.proofs.Common.{◌≡◌, ◌≤◌, false, length, get_or, take, sym, refl, ap, ◌∙◌, arith, ltb-false}
+use Rattle.std.proofs.Common.{◌≡◌, ◌≤◌, length, get_or, sym, ap, ◌∙◌, ltb-false}
 use Rattle.std.specs.Option as option
 use Rattle.std.proofs.lemmas.List.{get_or_past}
 use Rattle.definition.specs.Components.{part, plain}

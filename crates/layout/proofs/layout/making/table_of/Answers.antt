@@ -1,10 +1,8 @@
-use Rattle.std.proofs.Common.{◌≡◌, ℕ, List, map, length, get_or, take, set, sym, ap, ◌∙◌, arith}
+use Rattle.std.proofs.Common.{◌≡◌, ℕ, map, length, take, ap, ◌∙◌, arith}
 use Rattle.std.proofs.lemmas.List.{get_or-set_same, take_all}
 use Rattle.boxes.specs.Pairs.{type_of}
 use Rattle.configuration.specs.Entries.{blank}
-use Rattle.configuration.specs.declared.entry.Entry.{Entry as Listed}
 use Rattle.plans.specs.Entries.{no_entry, settled_in, entry_for}
-use Rattle.plans.specs.declared.entry.Entry.{Entry}
 use Rattle.layout.proofs.Tabling.{filled}
 use Rattle.layout.proofs.layout.making.table_of.Goals as goal
 
