@@ -6,9 +6,9 @@
 #[cfg(test)]
 mod case;
 #[cfg(test)]
-mod configuration;
+mod configuration_box;
 #[cfg(test)]
-mod definition;
+mod definition_box;
 #[cfg(test)]
 mod draft;
 #[cfg(test)]

@@ -364,63 +364,59 @@ fn is_known(rt: &impl Abort, known: &Known) -> Result<(), Fail> {
 }
 
 #[test]
-fn cut_at_each_length() -> Result<(), Fail> {
+fn cut_at_each_length(rt: HostRuntime) {
     for whole in &WHOLE {
-        Kind::Configuration.refuses_cuts(whole)?;
+        Kind::Configuration.refuses_cuts(&rt, whole);
     }
-    Ok(())
 }
 
 #[test]
-fn wrong_fields() -> Result<(), Fail> {
-    Kind::Configuration.refuses_all(DENSE, &WRONG)?;
-    Kind::Configuration.refuses_all(DENSE, &WRONG_TWICE)?;
-    Kind::Configuration.refuses_all(RGB3, &WRONG_BRIEF)
+fn wrong_fields(rt: HostRuntime) {
+    Kind::Configuration.refuses_all(&rt, DENSE, &WRONG);
+    Kind::Configuration.refuses_all(&rt, DENSE, &WRONG_TWICE);
+    Kind::Configuration.refuses_all(&rt, RGB3, &WRONG_BRIEF);
 }
 
 #[test]
-fn every_value_of_a_byte() -> Result<(), Fail> {
+fn every_value_of_a_byte(rt: HostRuntime) {
     for (at, last) in BYTES {
         for byte in 0..=255u8 {
             let mut draft = Draft::of(DENSE);
             draft.put(at, &[byte]);
-            let checked = if byte > last {
-                Kind::Configuration.refuses(draft.bytes(), 5, at as u64)
+            let tried = format_args!("{byte} at {at}");
+            if byte > last {
+                Kind::Configuration.refuses(&rt, draft.bytes(), 5, at as u64, &tried);
             } else {
-                Kind::Configuration.accepts(draft.bytes())
-            };
-            checked.note(format_args!("{byte} at {at}"))?;
+                Kind::Configuration.accepts(&rt, draft.bytes(), &tried);
+            }
         }
     }
-    Ok(())
 }
 
 #[test]
-fn every_flags_byte() -> Result<(), Fail> {
+fn every_flags_byte(rt: HostRuntime) {
     for byte in 0..=255u8 {
         let mut draft = Draft::of(DENSE);
         draft.put(38, &[byte]);
-        let checked = if byte % 8 == 0 {
-            Kind::Configuration.accepts(draft.bytes())
+        let tried = format_args!("flags {byte}");
+        if byte % 8 == 0 {
+            Kind::Configuration.accepts(&rt, draft.bytes(), &tried);
         } else {
-            Kind::Configuration.refuses(draft.bytes(), 5, 38)
-        };
-        checked.note(format_args!("flags {byte}"))?;
+            Kind::Configuration.refuses(&rt, draft.bytes(), 5, 38, &tried);
+        }
     }
-    Ok(())
 }
 
 #[test]
-fn every_version_above_1() -> Result<(), Fail> {
+fn every_version_above_1(rt: HostRuntime) {
     let mut listed = Draft::of(DENSE);
     let mut brief = Draft::of(RGB3);
     for version in 2..=255u8 {
         listed.put(8, &[version]);
         brief.put(8, &[version]);
-        Kind::Configuration.refuses(listed.bytes(), 3, 8)?;
-        Kind::Configuration.refuses(brief.bytes(), 3, 8)?;
+        Kind::Configuration.refuses(&rt, listed.bytes(), 3, 8, &"listed");
+        Kind::Configuration.refuses(&rt, brief.bytes(), 3, 8, &"brief");
     }
-    Ok(())
 }
 
 #[test]

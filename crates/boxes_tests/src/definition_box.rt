@@ -131,21 +131,23 @@ fn span(component: &Component) -> Option<(u64, u64)> {
     }
 }
 
-fn is_known(rt: &impl Abort, definition: &Definition, i: usize, known: &Known) -> Result<(), Fail> {
-    let component = definition.components().get(i).ok_or("no component")?;
-    assert_eq!(rt; component.number, known.number);
+fn is_known(rt: &impl Abort, definition: &Definition, i: usize, known: &Known) {
+    let Some(component) = definition.components().get(i) else {
+        panic!(rt; "component {i}: no component");
+    };
+    assert_eq!(rt; component.number, known.number, "component {i}");
     match (definition.uri(i), known.uri) {
         (Some(uri), Some((place, text))) => {
-            assert_eq!(rt; uri.place, place);
-            assert_eq!(rt; uri.text, text);
-            assert_eq!(rt; span(component), Some((place, text.len() as u64)));
-            Ok(())
+            assert_eq!(rt; uri.place, place, "component {i}");
+            assert_eq!(rt; uri.text, text, "component {i}");
+            assert_eq!(rt;
+                span(component),
+                Some((place, text.len() as u64)),
+                "component {i}"
+            );
         }
-        (None, None) => {
-            assert_eq!(rt; span(component), None);
-            Ok(())
-        },
-        _ => Err(Fail::new("a URI too many or too few")),
+        (None, None) => assert_eq!(rt; span(component), None, "component {i}"),
+        _ => panic!(rt; "component {i}: a URI too many or too few"),
     }
 }
 
@@ -154,7 +156,7 @@ fn all_known(rt: &impl Abort, bytes: &[u8], known: &[Known]) -> Result<(), Fail>
     assert_eq!(rt; definition.components().len(), known.len());
     assert_eq!(rt; definition.size(), bytes.len());
     for (i, component) in known.iter().enumerate() {
-        is_known(rt, &definition, i, component).note(format_args!("component {i}"))?;
+        is_known(rt, &definition, i, component);
     }
     assert!(rt; definition.uri(known.len()).is_none());
     assert!(rt; definition.uri(16).is_none());
@@ -163,29 +165,25 @@ fn all_known(rt: &impl Abort, bytes: &[u8], known: &[Known]) -> Result<(), Fail>
 }
 
 #[test]
-fn cut_at_each_length() -> Result<(), Fail> {
+fn cut_at_each_length(rt: HostRuntime) {
     for whole in &WHOLE {
-        Kind::Definition.refuses_cuts(whole)?;
+        Kind::Definition.refuses_cuts(&rt, whole);
     }
-    Ok(())
 }
 
 #[test]
-fn wrong_fields() -> Result<(), Fail> {
-    Kind::Definition.refuses_all(OWN, &WRONG)?;
-    Kind::Definition.refuses_all(OWN, &WRONG_TWICE)
+fn wrong_fields(rt: HostRuntime) {
+    Kind::Definition.refuses_all(&rt, OWN, &WRONG);
+    Kind::Definition.refuses_all(&rt, OWN, &WRONG_TWICE);
 }
 
 #[test]
-fn every_reserved_type() -> Result<(), Fail> {
+fn every_reserved_type(rt: HostRuntime) {
     let mut draft = Draft::of(RGB);
     for number in 17..0x8000u16 {
         draft.put(14, &number.to_be_bytes());
-        Kind::Definition
-            .refuses(draft.bytes(), 5, 14)
-            .note(format_args!("type {number}"))?;
+        Kind::Definition.refuses(&rt, draft.bytes(), 5, 14, &format_args!("type {number}"));
     }
-    Ok(())
 }
 
 #[test]
@@ -226,7 +224,7 @@ fn every_component_with_uri(rt: HostRuntime) -> Result<(), Fail> {
         assert_eq!(rt; component.number, u16::from_be_bytes([0x80 + i, 255 - i]));
         let uri = definition.uri(at).ok_or("no URI")?;
         assert_eq!(rt; uri.place, 14 + 4 * u64::from(i));
-        assert_eq!(rt; uri.text, &[255 - i]);
+        assert_eq!(rt; uri.text, [255 - i].as_slice());
     }
     Ok(())
 }
