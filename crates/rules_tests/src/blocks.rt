@@ -1,5 +1,6 @@
 // Rule 11: block sizes, and the flags of byte order.
 use crate::draft::{Draft, Entry, RGB};
+use std::process::Abort;
 use std::test::*;
 
 // The depth and the align of the second of two entries, the block size, the flags and the number.
@@ -61,7 +62,7 @@ const ALIGNED: [Case; 12] = [
     Case(8, 2, 9, 0x80, 11),
 ];
 
-fn all(first: Entry, cases: &[Case]) -> Result<(), Fail> {
+fn all(rt: &impl Abort, first: Entry, cases: &[Case]) -> Result<(), Fail> {
     for (i, case) in cases.iter().enumerate() {
         let entries = [first, Entry(1, case.0, 0, case.1)];
         let draft = Draft {
@@ -71,13 +72,13 @@ fn all(first: Entry, cases: &[Case]) -> Result<(), Fail> {
             sizes: [0; 5],
             frame: [1, 1],
         };
-        draft.answers(case.4, 255).note(format_args!("case {i}"))?;
+        draft.answers(rt, case.4, 255, &format_args!("case {i}"))?;
     }
     Ok(())
 }
 
 #[test]
-fn blocks_and_byte_orders() -> Result<(), Fail> {
-    all(Entry(0, 1, 0, 0), &PACKED)?;
-    all(Entry(0, 1, 0, 1), &ALIGNED)
+fn blocks_and_byte_orders(rt: HostRuntime) -> Result<(), Fail> {
+    all(&rt, Entry(0, 1, 0, 0), &PACKED)?;
+    all(&rt, Entry(0, 1, 0, 1), &ALIGNED)
 }

@@ -1,5 +1,6 @@
 // Rule 9: a depth that its format has, an integer palette, and a word with more bits than the value.
 use crate::draft::{Draft, Entry};
+use std::process::Abort;
 use std::test::*;
 
 // The type, the depth, the format, the align and the number.
@@ -75,7 +76,7 @@ const CASES: [Case; 61] = [
 ];
 
 // The entry of the case stands second of three.
-fn answers(case: &Case) -> Result<(), Fail> {
+fn answers(rt: &impl Abort, i: usize, case: &Case) -> Result<(), Fail> {
     let entries = [
         Entry(1, 8, 0, 0),
         Entry(0, case.1, case.2, case.3),
@@ -88,13 +89,13 @@ fn answers(case: &Case) -> Result<(), Fail> {
         sizes: [0; 5],
         frame: [1, 1],
     };
-    draft.answers(case.4, 1)
+    draft.answers(rt, case.4, 1, &format_args!("case {i}"))
 }
 
 #[test]
-fn depth_goes_with_format() -> Result<(), Fail> {
+fn depth_goes_with_format(rt: HostRuntime) -> Result<(), Fail> {
     for (i, case) in CASES.iter().enumerate() {
-        answers(case).note(format_args!("case {i}"))?;
+        answers(&rt, i, case)?;
     }
     Ok(())
 }

@@ -23,7 +23,7 @@ const CASES: [Case; 14] = [
 ];
 
 #[test]
-fn sides() -> Result<(), Fail> {
+fn sides(rt: HostRuntime) -> Result<(), Fail> {
     for case in &CASES {
         let draft = Draft {
             types: RGB,
@@ -32,9 +32,8 @@ fn sides() -> Result<(), Fail> {
             sizes: [0; 5],
             frame: [case.0, case.1],
         };
-        draft
-            .answers(case.2, 255)
-            .note(format_args!("{} by {}", case.0, case.1))?;
+        let tried = format_args!("{} by {}", case.0, case.1);
+        draft.answers(&rt, case.2, 255, &tried)?;
     }
     Ok(())
 }

@@ -1,6 +1,8 @@
 // Both boxes of version 0, made by hand.
 use crate::buffer::Buffer;
 use crate::refusal::{Given, answers};
+use std::fmt::Display;
+use std::process::Abort;
 use std::test::*;
 
 // The index, the depth, the format and the align.
@@ -62,7 +64,13 @@ impl<'a> Draft<'a> {
     }
 
     // The rules answer so; a number of 0 is for a draft that keeps them all.
-    pub(crate) fn answers(&self, number: u8, place: u64) -> Result<(), Fail> {
+    pub(crate) fn answers(
+        &self,
+        rt: &impl Abort,
+        number: u8,
+        place: u64,
+        tried: &impl Display,
+    ) -> Result<(), Fail> {
         let definition = definition(self.types);
         let configuration = self.configuration();
         let given = Given {
@@ -73,6 +81,6 @@ impl<'a> Draft<'a> {
             },
             configuration: configuration.bytes(),
         };
-        answers(&given, self.frame, number, place)
+        answers(rt, &given, self.frame, number, place, tried)
     }
 }

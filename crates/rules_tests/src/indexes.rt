@@ -1,5 +1,6 @@
 // Rule 8: each index is defined, and listed once but for Y in interleave 5.
 use crate::draft::{Draft, Entry, RGB, YUV};
+use std::process::Abort;
 use std::test::*;
 
 // The types, the sampling, the interleave, the listed indexes, the number and the place.
@@ -60,7 +61,7 @@ fn octets(indexes: &[u16]) -> [Entry; 6] {
     entries
 }
 
-fn answers(case: &Case) -> Result<(), Fail> {
+fn answers(rt: &impl Abort, i: usize, case: &Case) -> Result<(), Fail> {
     let entries = octets(case.3);
     let count = case.3.len().min(6);
     let draft = Draft {
@@ -70,13 +71,13 @@ fn answers(case: &Case) -> Result<(), Fail> {
         sizes: [0; 5],
         frame: [4, 1],
     };
-    draft.answers(case.4, case.5)
+    draft.answers(rt, case.4, case.5, &format_args!("case {i}"))
 }
 
 #[test]
-fn defined_and_listed_once() -> Result<(), Fail> {
+fn defined_and_listed_once(rt: HostRuntime) -> Result<(), Fail> {
     for (i, case) in CASES.iter().enumerate() {
-        answers(case).note(format_args!("case {i}"))?;
+        answers(&rt, i, case)?;
     }
     Ok(())
 }

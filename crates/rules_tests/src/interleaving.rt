@@ -1,5 +1,6 @@
 // Rule 10: the interleave goes with the sampling, and the list with both.
 use crate::draft::{Draft, Entry, OCTETS, RGB, YUV};
+use std::process::Abort;
 use std::test::*;
 
 const Y: Entry = Entry(0, 8, 0, 0);
@@ -105,7 +106,7 @@ const LISTS: [Case; 46] = [
     Case(YUV, 1, 5, &[Y, Entry(1, 16, 1, 0), Y, Entry(2, 7, 0, 1)], 0),
 ];
 
-fn all(cases: &[Case]) -> Result<(), Fail> {
+fn all(rt: &impl Abort, cases: &[Case]) -> Result<(), Fail> {
     for (i, case) in cases.iter().enumerate() {
         let draft = Draft {
             types: case.0,
@@ -114,13 +115,13 @@ fn all(cases: &[Case]) -> Result<(), Fail> {
             sizes: [0; 5],
             frame: [4, 2],
         };
-        draft.answers(case.4, 255).note(format_args!("case {i}"))?;
+        draft.answers(rt, case.4, 255, &format_args!("case {i}"))?;
     }
     Ok(())
 }
 
 #[test]
-fn interleave_goes_with_sampling_and_list() -> Result<(), Fail> {
-    all(&PAIRS)?;
-    all(&LISTS)
+fn interleave_goes_with_sampling_and_list(rt: HostRuntime) -> Result<(), Fail> {
+    all(&rt, &PAIRS)?;
+    all(&rt, &LISTS)
 }

@@ -86,7 +86,7 @@ const CASES: [Case; 14] = [
 ];
 
 #[test]
-fn lower_number_and_first_entry() -> Result<(), Fail> {
+fn lower_number_and_first_entry(rt: HostRuntime) -> Result<(), Fail> {
     for (i, case) in CASES.iter().enumerate() {
         let draft = Draft {
             types: case.0,
@@ -95,9 +95,7 @@ fn lower_number_and_first_entry() -> Result<(), Fail> {
             sizes: [0, case.4, 0, 0, 0],
             frame: case.5,
         };
-        draft
-            .answers(case.6, case.7)
-            .note(format_args!("case {i}"))?;
+        draft.answers(&rt, case.6, case.7, &format_args!("case {i}"))?;
     }
     Ok(())
 }

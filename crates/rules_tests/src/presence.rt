@@ -31,13 +31,13 @@ const CASES: [Case; 8] = [
 ];
 
 #[test]
-fn definition_goes_with_version() -> Result<(), Fail> {
+fn definition_goes_with_version(rt: HostRuntime) -> Result<(), Fail> {
     for (i, case) in CASES.iter().enumerate() {
         let given = Given {
             definition: case.0,
             configuration: case.1,
         };
-        answers(&given, [1, 1], case.2, 255).note(format_args!("case {i}"))?;
+        answers(&rt, &given, [1, 1], case.2, 255, &format_args!("case {i}"))?;
     }
     Ok(())
 }

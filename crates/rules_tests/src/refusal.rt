@@ -1,6 +1,8 @@
 // What the rules answer: the number, the letter and the place of a fault, or nothing.
 use boxes::Boxes;
 use fault::Fault;
+use std::fmt::Display;
+use std::process::Abort;
 use std::test::*;
 
 #[derive(Clone, Copy, Debug, PartialEq, Eq)]
@@ -40,11 +42,19 @@ pub(crate) struct Given<'a> {
     pub(crate) configuration: &'a [u8],
 }
 
-// Both boxes can be read, and the rules answer so for a frame of this width and height.
-pub(crate) fn answers(given: &Given, frame: [u32; 2], number: u8, place: u64) -> Result<(), Fail> {
+// Both boxes can be read, and the rules answer so for a frame of this width and height. What is tried is what a failure
+// shows.
+pub(crate) fn answers(
+    rt: &impl Abort,
+    given: &Given,
+    frame: [u32; 2],
+    number: u8,
+    place: u64,
+    tried: &impl Display,
+) -> Result<(), Fail> {
     let boxes = Boxes::read(given.definition, given.configuration)?;
     let [width, height] = frame;
     let answer = rules::check(&boxes, width, height);
-    assert_eq!(refusal_of(answer), expected(number, place));
+    assert_eq!(rt; refusal_of(answer), expected(number, place), "{tried}");
     Ok(())
 }

@@ -1,5 +1,7 @@
 // Rule 12: the pixel size, the row align and the tile align.
 use crate::draft::{Draft, Entry, OCTETS, RGB};
+use std::fmt::Display;
+use std::process::Abort;
 use std::test::*;
 
 // The interleave, the block size, the pixel size, the row align, the tile align and the number.
@@ -77,7 +79,7 @@ const LEAST: [Least; 16] = [
     Least([64, 1, 63], [0; 3], 8, 16),
 ];
 
-fn keeps_least(least: &Least) -> Result<(), Fail> {
+fn keeps_least(rt: &impl Abort, least: &Least, tried: &impl Display) -> Result<(), Fail> {
     let Least([d0, d1, d2], [a0, a1, a2], block, pixel) = *least;
     let entries = [
         Entry(0, d0, 0, a0),
@@ -86,12 +88,19 @@ fn keeps_least(least: &Least) -> Result<(), Fail> {
     ];
     // One block less, or one byte.
     let fewer = pixel.saturating_sub(u32::from(block).max(1));
-    sized(&entries, [1, block], [pixel, 0, 0], 0)?;
-    sized(&entries, [1, block], [fewer, 0, 0], 12)
+    sized(rt, &entries, [1, block], [pixel, 0, 0], 0, tried)?;
+    sized(rt, &entries, [1, block], [fewer, 0, 0], 12, tried)
 }
 
 // The interleave and the block size; then the pixel size, the row align and the tile align.
-fn sized(entries: &[Entry], packing: [u8; 2], sizes: [u32; 3], number: u8) -> Result<(), Fail> {
+fn sized(
+    rt: &impl Abort,
+    entries: &[Entry],
+    packing: [u8; 2],
+    sizes: [u32; 3],
+    number: u8,
+    tried: &impl Display,
+) -> Result<(), Fail> {
     let [interleave, block] = packing;
     let [pixel, row, tile] = sizes;
     let draft = Draft {
@@ -101,18 +110,23 @@ fn sized(entries: &[Entry], packing: [u8; 2], sizes: [u32; 3], number: u8) -> Re
         sizes: [pixel, row, tile, 0, 0],
         frame: [1, 1],
     };
-    draft.answers(number, 255)
+    draft.answers(rt, number, 255, tried)
 }
 
 #[test]
-fn pixel_sizes_and_aligns() -> Result<(), Fail> {
+fn pixel_sizes_and_aligns(rt: HostRuntime) -> Result<(), Fail> {
     for (i, case) in PLAIN.iter().enumerate() {
-        sized(OCTETS, [case.0, case.1], [case.2, case.3, case.4], case.5).note(format_args!(
-            "case {i}"
-        ))?;
+        sized(
+            &rt,
+            OCTETS,
+            [case.0, case.1],
+            [case.2, case.3, case.4],
+            case.5,
+            &format_args!("case {i}"),
+        )?;
     }
     for (i, least) in LEAST.iter().enumerate() {
-        keeps_least(least).note(format_args!("least {i}"))?;
+        keeps_least(&rt, least, &format_args!("least {i}"))?;
     }
     Ok(())
 }

@@ -68,7 +68,7 @@ const CASES: [Case; 55] = [
 ];
 
 #[test]
-fn tiles_divide_the_frame() -> Result<(), Fail> {
+fn tiles_divide_the_frame(rt: HostRuntime) -> Result<(), Fail> {
     for (i, case) in CASES.iter().enumerate() {
         let draft = Draft {
             types: YUV,
@@ -77,7 +77,7 @@ fn tiles_divide_the_frame() -> Result<(), Fail> {
             sizes: [0, 0, 0, case.1, case.2],
             frame: [case.3, case.4],
         };
-        draft.answers(case.5, 255).note(format_args!("case {i}"))?;
+        draft.answers(&rt, case.5, 255, &format_args!("case {i}"))?;
     }
     Ok(())
 }
