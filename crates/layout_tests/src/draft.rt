@@ -4,7 +4,8 @@ use crate::refusal::answers;
 use boxes::Boxes;
 use fault::Fault;
 use layout::Layout;
-use std::test::*;
+use std::fmt::Display;
+use std::process::Abort;
 
 // The index, the depth, the format and the align.
 #[derive(Clone, Copy)]
@@ -94,7 +95,7 @@ impl<'a> Draft<'a> {
     }
 
     // The layout is refused by this rule; a number of 0 is for a draft that keeps them all.
-    pub(crate) fn answers(&self, number: u8, place: u64) -> Result<(), Fail> {
-        answers(self.layout(), number, 'c', place)
+    pub(crate) fn answers(&self, rt: &impl Abort, number: u8, place: u64, note: &impl Display) {
+        answers(rt, self.layout(), number, 'c', place, note);
     }
 }

@@ -1,8 +1,8 @@
 // What a layout says of its entries and of the sizes of their lines and tiles.
 use crate::draft::{Draft, Entry, OCTETS, YUV};
 use layout::Layout;
+use std::fmt::Display;
 use std::process::Abort;
-use std::test::*;
 
 // The index, the type, the format, the depth and the align of an entry; the columns and rows of its grid; the bytes of
 // its line and of its tile.
@@ -153,47 +153,49 @@ const TABLES: [Table; 8] = [
     },
 ];
 
-fn is_entry(rt: &impl Abort, layout: &Layout, position: usize, row: &Row) -> Result<(), Fail> {
+fn is_entry(rt: &impl Abort, layout: &Layout, position: usize, row: &Row, note: &impl Display) {
     let Some(entry) = layout.entries().get(position) else {
-        return Err(Fail::new("no such entry"));
+        panic!(rt; "{note}: no such entry")
     };
     let [index, number, format, depth, align] = row.0;
-    assert_eq!(rt; u64::from(entry.index), index);
-    assert_eq!(rt; u64::from(entry.component_type), number);
-    assert_eq!(rt; u64::from(entry.format.number()), format);
-    assert_eq!(rt; entry.depth.0, depth);
-    assert_eq!(rt; entry.align.0, align);
-    assert_eq!(rt; entry.columns, row.1);
-    assert_eq!(rt; entry.rows, row.2);
-    assert_eq!(rt; layout.line_size(position), Some(row.3));
-    assert_eq!(rt; layout.tile_size(position), Some(row.4));
-    Ok(())
+    assert_eq!(rt; u64::from(entry.index), index, "{note}");
+    assert_eq!(rt; u64::from(entry.component_type), number, "{note}");
+    assert_eq!(rt; u64::from(entry.format.number()), format, "{note}");
+    assert_eq!(rt; entry.depth.0, depth, "{note}");
+    assert_eq!(rt; entry.align.0, align, "{note}");
+    assert_eq!(rt; entry.columns, row.1, "{note}");
+    assert_eq!(rt; entry.rows, row.2, "{note}");
+    assert_eq!(rt; layout.line_size(position), Some(row.3), "{note}");
+    assert_eq!(rt; layout.tile_size(position), Some(row.4), "{note}");
 }
 
-fn has(rt: &impl Abort, layout: &Layout, rows: &[Row]) -> Result<(), Fail> {
+fn has(rt: &impl Abort, layout: &Layout, rows: &[Row], note: &impl Display) {
     for (i, row) in rows.iter().enumerate() {
-        is_entry(rt, layout, i, row).note(format_args!("entry {i}"))?;
+        is_entry(rt, layout, i, row, &format_args!("{note}: entry {i}"));
     }
-    assert_eq!(rt; layout.entries().len(), rows.len());
-    assert_eq!(rt; layout.line_size(rows.len()), None);
-    assert_eq!(rt; layout.tile_size(rows.len()), None);
-    assert_eq!(rt; layout.line_size(usize::MAX), None);
-    assert_eq!(rt; layout.tile_size(usize::MAX), None);
-    Ok(())
+    assert_eq!(rt; layout.entries().len(), rows.len(), "{note}");
+    assert_eq!(rt; layout.line_size(rows.len()), None, "{note}");
+    assert_eq!(rt; layout.tile_size(rows.len()), None, "{note}");
+    assert_eq!(rt; layout.line_size(usize::MAX), None, "{note}");
+    assert_eq!(rt; layout.tile_size(usize::MAX), None, "{note}");
 }
 
-fn holds(rt: &impl Abort, table: &Table) -> Result<(), Fail> {
-    let layout = table.draft.layout()?;
-    let [width, height] = table.draft.frame;
-    assert_eq!(rt; layout.width(), width);
-    assert_eq!(rt; layout.height(), height);
-    has(rt, &layout, table.rows)
+fn holds(rt: &impl Abort, table: &Table, i: usize) {
+    let note = format_args!("table {i}");
+    match table.draft.layout() {
+        Ok(layout) => {
+            let [width, height] = table.draft.frame;
+            assert_eq!(rt; layout.width(), width, "{note}");
+            assert_eq!(rt; layout.height(), height, "{note}");
+            has(rt, &layout, table.rows, &note);
+        }
+        Err(fault) => panic!(rt; "{note}: {fault:?}"),
+    }
 }
 
 #[test]
-fn grids_lines_and_tiles(rt: HostRuntime) -> Result<(), Fail> {
+fn grids_lines_and_tiles(rt: HostRuntime) {
     for (i, table) in TABLES.iter().enumerate() {
-        holds(&rt, table).note(format_args!("table {i}"))?;
+        holds(&rt, table, i);
     }
-    Ok(())
 }

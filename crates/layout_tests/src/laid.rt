@@ -2,8 +2,8 @@
 use crate::draft::Draft;
 use layout::Layout;
 use placement::Place;
+use std::fmt::Display;
 use std::process::Abort;
-use std::test::*;
 
 // The index, the column, the row and the bit of the value; then the byte, and the number of the bit there.
 pub(crate) struct Bit(
@@ -21,35 +21,35 @@ pub(crate) struct Laid {
     pub(crate) bits: &'static [Bit],
 }
 
-fn lies(rt: &impl Abort, layout: &Layout, bit: &Bit) -> Result<(), Fail> {
+fn lies(rt: &impl Abort, layout: &Layout, bit: &Bit, note: &impl Display) {
     let place = Place {
         index: bit.0,
         column: bit.1,
         row: bit.2,
     };
-    let (byte, number) = layout.locate(place, bit.3)?;
-    assert_eq!(rt; byte, bit.4);
-    assert_eq!(rt; number, bit.5);
-    Ok(())
+    assert_eq!(rt; layout.locate(place, bit.3), Ok((bit.4, bit.5)), "{note}");
 }
 
 // Each of these bits lies there.
-pub(crate) fn lie(rt: &impl Abort, layout: &Layout, bits: &[Bit]) -> Result<(), Fail> {
+pub(crate) fn lie(rt: &impl Abort, layout: &Layout, bits: &[Bit], note: &impl Display) {
     for (i, bit) in bits.iter().enumerate() {
-        lies(rt, layout, bit).note(format_args!("bit {i}"))?;
+        lies(rt, layout, bit, &format_args!("{note}: bit {i}"));
     }
-    Ok(())
 }
 
-fn holds(rt: &impl Abort, laid: &Laid) -> Result<(), Fail> {
-    let layout = laid.draft.layout()?;
-    assert_eq!(rt; layout.size(), laid.size);
-    lie(rt, &layout, laid.bits)
+fn holds(rt: &impl Abort, laid: &Laid, i: usize) {
+    let note = format_args!("case {i}");
+    match laid.draft.layout() {
+        Ok(layout) => {
+            assert_eq!(rt; layout.size(), laid.size, "{note}");
+            lie(rt, &layout, laid.bits, &note);
+        }
+        Err(fault) => panic!(rt; "{note}: {fault:?}"),
+    }
 }
 
-pub(crate) fn all(rt: &impl Abort, cases: &[Laid]) -> Result<(), Fail> {
+pub(crate) fn all(rt: &impl Abort, cases: &[Laid]) {
     for (i, laid) in cases.iter().enumerate() {
-        holds(rt, laid).note(format_args!("case {i}"))?;
+        holds(rt, laid, i);
     }
-    Ok(())
 }

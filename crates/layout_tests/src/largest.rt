@@ -1,7 +1,6 @@
 // Rule 14: a frame of at most 4,294,967,295 bytes, however its bytes come about.
 use crate::draft::{Draft, Entry, MONO, OCTETS, RGB, YUV};
 use std::process::Abort;
-use std::test::*;
 
 // The types, the list; sampling, interleave, block size and flags; pixel size, row align, tile align, and the tile
 // columns and rows, each less one; the width and the height; and the bytes of the frame.
@@ -282,7 +281,8 @@ const CASES: [Case; 32] = [
     ),
 ];
 
-fn answers(rt: &impl Abort, case: &Case) -> Result<(), Fail> {
+fn answers(rt: &impl Abort, case: &Case, i: usize) {
+    let note = format_args!("case {i}");
     let draft = Draft {
         types: case.0,
         entries: case.1,
@@ -291,17 +291,19 @@ fn answers(rt: &impl Abort, case: &Case) -> Result<(), Fail> {
         frame: case.4,
     };
     if case.5 > LARGEST {
-        return draft.answers(14, 255);
+        draft.answers(rt, 14, 255, &note);
+        return;
     }
-    let layout = draft.layout()?;
-    assert_eq!(rt; layout.size(), case.5);
-    Ok(())
+    match draft.layout() {
+        Ok(layout) => assert_eq!(rt; layout.size(), case.5, "{note}"),
+        Err(fault) => panic!(rt; "{note}: {fault:?}"),
+    }
 }
 
 #[test]
-fn largest_frame(rt: HostRuntime) -> Result<(), Fail> {
+fn largest_frame(rt: HostRuntime) {
     for (i, case) in CASES.iter().enumerate() {
-        answers(&rt, case).note(format_args!("case {i}"))?;
+        answers(&rt, case, i);
     }
     // Of sixteen components, each of the largest values, lines and tiles.
     let entries = [Entry(0, 64, 0, 0); 16];
@@ -313,7 +315,7 @@ fn largest_frame(rt: HostRuntime) -> Result<(), Fail> {
         sizes: [0, 65_536, 1_048_576, 32_767, 32_767],
         frame: [32_768, 32_768],
     };
-    draft.answers(14, 255)
+    draft.answers(&rt, 14, 255, &"sixteen components");
 }
 
 // Each entry lists the index of its position.

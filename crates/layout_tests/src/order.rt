@@ -1,6 +1,5 @@
 // Every rule of the configuration is asked of a layout, in the order of the numbers: the lowest that is broken is answered.
 use crate::draft::{Draft, Entry, MONO, OCTETS, YUV};
-use std::test::*;
 
 // The types, the list, the interleave, the block size, the row align, the frame, the number and the place.
 struct Case(
@@ -34,7 +33,7 @@ const CASES: [Case; 10] = [
 ];
 
 #[test]
-fn lower_number_first() -> Result<(), Fail> {
+fn lower_number_first(rt: HostRuntime) {
     for (i, case) in CASES.iter().enumerate() {
         let draft = Draft {
             types: case.0,
@@ -43,11 +42,8 @@ fn lower_number_first() -> Result<(), Fail> {
             sizes: [0, case.4, 0, 0, 0],
             frame: case.5,
         };
-        draft
-            .answers(case.6, case.7)
-            .note(format_args!("case {i}"))?;
+        draft.answers(&rt, case.6, case.7, &format_args!("case {i}"));
     }
-    Ok(())
 }
 
 // The depth, the align and the number.
@@ -63,7 +59,7 @@ const WORDS: [Word; 6] = [
 ];
 
 #[test]
-fn word_has_more_bits_than_its_value() -> Result<(), Fail> {
+fn word_has_more_bits_than_its_value(rt: HostRuntime) {
     for word in &WORDS {
         let entries = [Entry(0, word.0, 0, word.1)];
         let draft = Draft {
@@ -73,9 +69,7 @@ fn word_has_more_bits_than_its_value() -> Result<(), Fail> {
             sizes: [0; 5],
             frame: [1, 1],
         };
-        draft
-            .answers(word.2, 0)
-            .note(format_args!("depth {}, align {}", word.0, word.1))?;
+        let note = format_args!("depth {}, align {}", word.0, word.1);
+        draft.answers(&rt, word.2, 0, &note);
     }
-    Ok(())
 }

@@ -3,7 +3,9 @@ use crate::draft::{Draft, Entry};
 use crate::refusal::answers;
 use layout::Layout;
 use placement::Place;
-use std::test::*;
+use std::fmt::Display;
+use std::process::Abort;
+use std::test::Fail;
 
 // Y, U and V of 8, 5 and 64 bits in 4:2:0, at the indexes 1, 0 and 3. The index 2 is defined and not listed.
 const DRAFT: Draft<'static> = Draft {
@@ -71,21 +73,22 @@ const CASES: [Case; 43] = [
     Case(1, 0, 4, 8, 2),
 ];
 
-fn answered(layout: &Layout, case: &Case) -> Result<(), Fail> {
+fn answered(rt: &impl Abort, layout: &Layout, case: &Case, note: &impl Display) {
     let place = Place {
         index: case.0,
         column: case.1,
         row: case.2,
     };
     let number = if case.4 == FOUND { 0 } else { 21 };
-    answers(layout.locate(place, case.3), number, 'f', case.4)
+    let answer = layout.locate(place, case.3);
+    answers(rt, answer, number, 'f', case.4, note);
 }
 
 #[test]
-fn no_such_place() -> Result<(), Fail> {
+fn no_such_place(rt: HostRuntime) -> Result<(), Fail> {
     let layout = DRAFT.layout()?;
     for (i, case) in CASES.iter().enumerate() {
-        answered(&layout, case).note(format_args!("case {i}"))?;
+        answered(&rt, &layout, case, &format_args!("case {i}"));
     }
     Ok(())
 }

@@ -2,7 +2,6 @@
 use crate::draft::{Given, layout_of};
 use crate::laid::{Bit, lie};
 use std::process::Abort;
-use std::test::*;
 
 // The boxes, the bytes of a frame of 2 x 2, and some of its bits.
 struct Case(Given<'static>, u64, &'static [Bit]);
@@ -49,16 +48,20 @@ const CASES: [Case; 3] = [
     ),
 ];
 
-fn holds(rt: &impl Abort, case: &Case) -> Result<(), Fail> {
-    let layout = layout_of(&case.0, [2, 2])?;
-    assert_eq!(rt; layout.size(), case.1);
-    lie(rt, &layout, case.2)
+fn holds(rt: &impl Abort, case: &Case, i: usize) {
+    let note = format_args!("case {i}");
+    match layout_of(&case.0, [2, 2]) {
+        Ok(layout) => {
+            assert_eq!(rt; layout.size(), case.1, "{note}");
+            lie(rt, &layout, case.2, &note);
+        }
+        Err(fault) => panic!(rt; "{note}: {fault:?}"),
+    }
 }
 
 #[test]
-fn profiles_by_index(rt: HostRuntime) -> Result<(), Fail> {
+fn profiles_by_index(rt: HostRuntime) {
     for (i, case) in CASES.iter().enumerate() {
-        holds(&rt, case).note(format_args!("case {i}"))?;
+        holds(&rt, case, i);
     }
-    Ok(())
 }

