@@ -14,10 +14,10 @@ pub struct Fault {
 
 impl fmt::Display for Fault {
     fn fmt<W: fmt::Write>(&self, f: &mut fmt::Formatter<W>) -> fmt::Result {
-        let number = self.reason.number();
-        let letter = self.layer.letter();
+        let number = u8::from(self.reason);
+        let letter = char::from(self.layer);
         let place = self.place;
-        let meaning = self.reason.meaning();
+        let meaning = self.reason;
         write!(
             f,
             "refusal {number}, layer {letter}, place {place}: {meaning}"

@@ -1,6 +1,9 @@
 // Which layer refused. Each layer has a letter.
 ghost use Rattle.std.specs.Prelude.{◌≡◌};
-ghost use Rattle.fault.specs.Faults.{letter_of};
+ghost use Rattle.fault.specs.Faults.{letter_of, fault};
+
+use crate::fault::Fault;
+use crate::reason::Reason;
 
 #[derive(Clone, Copy, Debug, PartialEq, Eq)]
 pub enum Layer {
@@ -17,10 +20,23 @@ pub enum Layer {
 }
 
 impl Layer {
-    pub fn letter(self) -> char
-        ensures { result ≡ letter_of self }
+    // A refusal by this layer.
+    pub fn refuses(self, reason: Reason, place: u64) -> Fault
+        ensures { result ≡ fault reason self place }
     {
-        match self {
+        Fault {
+            reason,
+            layer: self,
+            place,
+        }
+    }
+}
+
+impl From<Layer> for char {
+    ghost from_gives = { λ layer letter. letter ≡ letter_of layer };
+
+    fn from(layer: Layer) -> char {
+        match layer {
             Layer::DefinitionBox => 'd',
             Layer::ConfigurationBox => 'u',
             Layer::Configuration => 'c',

@@ -2,6 +2,8 @@
 ghost use Rattle.std.specs.Prelude.{◌≡◌};
 ghost use Rattle.fault.specs.Faults.{number_of};
 
+use std::fmt;
+
 #[derive(Clone, Copy, Debug, PartialEq, Eq)]
 pub enum Reason {
     // A box's size is not its length, a field runs past its end, or bytes are left over.
@@ -46,11 +48,11 @@ pub enum Reason {
     NotANumber,
 }
 
-impl Reason {
-    pub fn number(self) -> u8
-        ensures { result ≡ number_of self }
-    {
-        match self {
+impl From<Reason> for u8 {
+    ghost from_gives = { λ reason number. number ≡ number_of reason };
+
+    fn from(reason: Reason) -> u8 {
+        match reason {
             Reason::Extent => 1,
             Reason::BoxType => 2,
             Reason::Version => 3,
@@ -73,10 +75,12 @@ impl Reason {
             Reason::NotANumber => 28,
         }
     }
+}
 
-    // The reason in words, for a person.
-    pub(crate) fn meaning(self) -> &'static str {
-        match self {
+// The reason in words, for a person.
+impl fmt::Display for Reason {
+    fn fmt<W: fmt::Write>(&self, f: &mut fmt::Formatter<W>) -> fmt::Result {
+        f.write_str(match self {
             Reason::Extent =>
                 "the size is not the length, a field runs past the end, or bytes are left over",
             Reason::BoxType => "not the type word of this box",
@@ -99,6 +103,6 @@ impl Reason {
             Reason::Bounds => "a byte number at or past the length",
             Reason::Room => "the output buffer is too short for this box",
             Reason::NotANumber => "not a number",
-        }
+        })
     }
 }
