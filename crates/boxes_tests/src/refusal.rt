@@ -14,8 +14,8 @@ pub(crate) fn refusal_of<T: Drop>(answer: Result<T, Fault>) -> Option<Refusal> {
     match answer {
         Ok(_) => None,
         Err(fault) => Some(Refusal {
-            number: fault.reason.number(),
-            letter: fault.layer.letter(),
+            number: u8::from(fault.reason),
+            letter: char::from(fault.layer),
             place: fault.place,
         }),
     }

@@ -1,6 +1,9 @@
 // The closed choices of the configuration box, each a number in one byte.
-ghost use Rattle.std.specs.Prelude.{◌≡◌, ◌<◌, ◌≤◌};
+ghost use Rattle.std.specs.Prelude.{◌≡◌, ◌<◌, ◌≤◌, ok_or};
 ghost use Rattle.choices.specs.Choices.{format_of, format_number, sampling_of, sampling_number, interleave_of, interleave_number, across_of, down_of};
+
+use crate::reserved::Reserved;
+use std::fmt;
 
 // What the bits of a value mean.
 #[derive(Clone, Copy, Debug, PartialEq, Eq)]
@@ -10,26 +13,40 @@ pub enum Format {
     Complex,
 }
 
-impl Format {
-    pub fn from_number(number: u8) -> Option<Format>
-        ensures { result ≡ format_of number }
-    {
+impl TryFrom<u8> for Format {
+    type Error = Reserved;
+
+    ghost try_from_gives = { λ number r. r ≡ ok_or (format_of number) (record { 0 = number }) };
+
+    fn try_from(number: u8) -> Result<Format, Reserved> {
         match number {
-            0 => Some(Format::Integer),
-            1 => Some(Format::Float),
-            2 => Some(Format::Complex),
-            _ => None,
+            0 => Ok(Format::Integer),
+            1 => Ok(Format::Float),
+            2 => Ok(Format::Complex),
+            _ => Err(Reserved(number)),
         }
     }
+}
 
-    pub fn number(self) -> u8
-        ensures { result ≡ format_number self }
-    {
-        match self {
+impl From<Format> for u8 {
+    ghost from_gives = { λ format number. number ≡ format_number format };
+
+    fn from(format: Format) -> u8 {
+        match format {
             Format::Integer => 0,
             Format::Float => 1,
             Format::Complex => 2,
         }
+    }
+}
+
+impl fmt::Display for Format {
+    fn fmt<W: fmt::Write>(&self, f: &mut fmt::Formatter<W>) -> fmt::Result {
+        f.pad(match self {
+            Format::Integer => "unsigned integer",
+            Format::Float => "float",
+            Format::Complex => "complex",
+        })
     }
 }
 
@@ -42,30 +59,47 @@ pub enum Sampling {
     Yuv411,
 }
 
-impl Sampling {
-    pub fn from_number(number: u8) -> Option<Sampling>
-        ensures { result ≡ sampling_of number }
-    {
+impl TryFrom<u8> for Sampling {
+    type Error = Reserved;
+
+    ghost try_from_gives = { λ number r. r ≡ ok_or (sampling_of number) (record { 0 = number }) };
+
+    fn try_from(number: u8) -> Result<Sampling, Reserved> {
         match number {
-            0 => Some(Sampling::Full),
-            1 => Some(Sampling::Yuv422),
-            2 => Some(Sampling::Yuv420),
-            3 => Some(Sampling::Yuv411),
-            _ => None,
+            0 => Ok(Sampling::Full),
+            1 => Ok(Sampling::Yuv422),
+            2 => Ok(Sampling::Yuv420),
+            3 => Ok(Sampling::Yuv411),
+            _ => Err(Reserved(number)),
         }
     }
+}
 
-    pub fn number(self) -> u8
-        ensures { result ≡ sampling_number self }
-    {
-        match self {
+impl From<Sampling> for u8 {
+    ghost from_gives = { λ sampling number. number ≡ sampling_number sampling };
+
+    fn from(sampling: Sampling) -> u8 {
+        match sampling {
             Sampling::Full => 0,
             Sampling::Yuv422 => 1,
             Sampling::Yuv420 => 2,
             Sampling::Yuv411 => 3,
         }
     }
+}
 
+impl fmt::Display for Sampling {
+    fn fmt<W: fmt::Write>(&self, f: &mut fmt::Formatter<W>) -> fmt::Result {
+        f.pad(match self {
+            Sampling::Full => "none",
+            Sampling::Yuv422 => "4:2:2",
+            Sampling::Yuv420 => "4:2:0",
+            Sampling::Yuv411 => "4:1:1",
+        })
+    }
+}
+
+impl Sampling {
     // How many columns of luma share one value of chroma.
     pub fn across(self) -> u64
         ensures is { result ≡ across_of self }
@@ -101,25 +135,29 @@ pub enum Interleave {
     MultiY,
 }
 
-impl Interleave {
-    pub fn from_number(number: u8) -> Option<Interleave>
-        ensures { result ≡ interleave_of number }
-    {
+impl TryFrom<u8> for Interleave {
+    type Error = Reserved;
+
+    ghost try_from_gives = { λ number r. r ≡ ok_or (interleave_of number) (record { 0 = number }) };
+
+    fn try_from(number: u8) -> Result<Interleave, Reserved> {
         match number {
-            0 => Some(Interleave::Component),
-            1 => Some(Interleave::Pixel),
-            2 => Some(Interleave::Mixed),
-            3 => Some(Interleave::Row),
-            4 => Some(Interleave::TileComponent),
-            5 => Some(Interleave::MultiY),
-            _ => None,
+            0 => Ok(Interleave::Component),
+            1 => Ok(Interleave::Pixel),
+            2 => Ok(Interleave::Mixed),
+            3 => Ok(Interleave::Row),
+            4 => Ok(Interleave::TileComponent),
+            5 => Ok(Interleave::MultiY),
+            _ => Err(Reserved(number)),
         }
     }
+}
 
-    pub fn number(self) -> u8
-        ensures { result ≡ interleave_number self }
-    {
-        match self {
+impl From<Interleave> for u8 {
+    ghost from_gives = { λ interleave number. number ≡ interleave_number interleave };
+
+    fn from(interleave: Interleave) -> u8 {
+        match interleave {
             Interleave::Component => 0,
             Interleave::Pixel => 1,
             Interleave::Mixed => 2,
@@ -127,5 +165,18 @@ impl Interleave {
             Interleave::TileComponent => 4,
             Interleave::MultiY => 5,
         }
+    }
+}
+
+impl fmt::Display for Interleave {
+    fn fmt<W: fmt::Write>(&self, f: &mut fmt::Formatter<W>) -> fmt::Result {
+        f.pad(match self {
+            Interleave::Component => "component",
+            Interleave::Pixel => "pixel",
+            Interleave::Mixed => "mixed",
+            Interleave::Row => "row",
+            Interleave::TileComponent => "tile-component",
+            Interleave::MultiY => "multi-Y",
+        })
     }
 }

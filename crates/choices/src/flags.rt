@@ -1,6 +1,8 @@
 // The flags byte of the configuration box, its three lowest bits reserved.
-ghost use Rattle.std.specs.Prelude.{◌≡◌, if◌then◌else◌};
+ghost use Rattle.std.specs.Prelude.{◌≡◌, if◌then◌else◌, ok_or};
 ghost use Rattle.choices.specs.Flags.{flags_of, flags_byte};
+
+use crate::reserved::Reserved;
 
 #[derive(Clone, Copy, Debug, PartialEq, Eq)]
 pub struct Flags {
@@ -20,14 +22,18 @@ impl Flags {
         block_reversed: false,
         pad_unknown: false,
     };
+}
 
-    pub fn from_byte(byte: u8) -> Option<Flags>
-        ensures { result ≡ flags_of byte }
-    {
+impl TryFrom<u8> for Flags {
+    type Error = Reserved;
+
+    ghost try_from_gives = { λ byte r. r ≡ ok_or (flags_of byte) (record { 0 = byte }) };
+
+    fn try_from(byte: u8) -> Result<Flags, Reserved> {
         if byte % 8 != 0 {
-            return None;
+            return Err(Reserved(byte));
         }
-        Some(Flags {
+        Ok(Flags {
             components_little_endian: byte / 128 % 2 == 1,
             pad_low: byte / 64 % 2 == 1,
             block_little_endian: byte / 32 % 2 == 1,
@@ -35,15 +41,17 @@ impl Flags {
             pad_unknown: byte / 8 % 2 == 1,
         })
     }
+}
 
-    pub fn byte(self) -> u8
-        ensures { result ≡ flags_byte self }
-    {
-        weight(self.components_little_endian, 128)
-            + weight(self.pad_low, 64)
-            + weight(self.block_little_endian, 32)
-            + weight(self.block_reversed, 16)
-            + weight(self.pad_unknown, 8)
+impl From<Flags> for u8 {
+    ghost from_gives = { λ flags byte. byte ≡ flags_byte flags };
+
+    fn from(flags: Flags) -> u8 {
+        weight(flags.components_little_endian, 128)
+            + weight(flags.pad_low, 64)
+            + weight(flags.block_little_endian, 32)
+            + weight(flags.block_reversed, 16)
+            + weight(flags.pad_unknown, 8)
     }
 }
 

@@ -4,6 +4,8 @@
 
 mod choice;
 mod flags;
+mod reserved;
 
 pub use choice::{Format, Interleave, Sampling};
 pub use flags::Flags;
+pub use reserved::Reserved;

@@ -32,7 +32,7 @@ impl Entry {
         ensures { out.new ≡ placed out.old at (entry_bytes self.now) }
     {
         let [high, low] = self.index.to_be_bytes();
-        let format = self.format.number();
+        let format = u8::from(self.format);
         put(
             out,
             at,
@@ -54,7 +54,7 @@ fn entry_at(bytes: &[u8], at: usize) -> Result<Item<Entry>, Fault>
     let index = half_at(bytes, at, Layer::ConfigurationBox)?;
     let depth_less_one = byte_at(bytes, at + 2, Layer::ConfigurationBox)?;
     let number = byte_at(bytes, at + 3, Layer::ConfigurationBox)?;
-    let Some(format) = Format::from_number(number) else {
+    let Ok(format) = Format::try_from(number) else {
         return Err(refused(Reason::Reserved, at + 3));
     };
     let align = byte_at(bytes, at + 4, Layer::ConfigurationBox)?;

@@ -45,16 +45,16 @@ fn packing_at(bytes: &[u8], at: usize) -> Result<Packing, Fault>
     ensures { result ≡ packing_at bytes.now at }
 {
     let number = byte_at(bytes, at, Layer::ConfigurationBox)?;
-    let Some(sampling) = Sampling::from_number(number) else {
+    let Ok(sampling) = Sampling::try_from(number) else {
         return Err(refused(Reason::Reserved, at));
     };
     let number = byte_at(bytes, at + 1, Layer::ConfigurationBox)?;
-    let Some(interleave) = Interleave::from_number(number) else {
+    let Ok(interleave) = Interleave::try_from(number) else {
         return Err(refused(Reason::Reserved, at + 1));
     };
     let block = byte_at(bytes, at + 2, Layer::ConfigurationBox)?;
     let byte = byte_at(bytes, at + 3, Layer::ConfigurationBox)?;
-    let Some(flags) = Flags::from_byte(byte) else {
+    let Ok(flags) = Flags::try_from(byte) else {
         return Err(refused(Reason::Reserved, at + 3));
     };
     Ok(Packing {
@@ -97,9 +97,9 @@ impl Packing {
         requires { at + 4 ≤ length out.old }
         ensures { out.new ≡ placed out.old at (packing_bytes self.now) }
     {
-        let sampling = self.sampling.number();
-        let interleave = self.interleave.number();
-        let flags = self.flags.byte();
+        let sampling = u8::from(self.sampling);
+        let interleave = u8::from(self.interleave);
+        let flags = u8::from(self.flags);
         put(out, at, &[sampling, interleave, self.block, flags]);
     }
 }

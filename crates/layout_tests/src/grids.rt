@@ -160,7 +160,7 @@ fn is_entry(rt: &impl Abort, layout: &Layout, position: usize, row: &Row, note: 
     let [index, number, format, depth, align] = row.0;
     assert_eq!(rt; u64::from(entry.index), index, "{note}");
     assert_eq!(rt; u64::from(entry.component_type), number, "{note}");
-    assert_eq!(rt; u64::from(entry.format.number()), format, "{note}");
+    assert_eq!(rt; u64::from(u8::from(entry.format)), format, "{note}");
     assert_eq!(rt; entry.depth.0, depth, "{note}");
     assert_eq!(rt; entry.align.0, align, "{note}");
     assert_eq!(rt; entry.columns, row.1, "{note}");

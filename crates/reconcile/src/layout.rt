@@ -1,5 +1,4 @@
 // How values are laid out, one line for each property.
-use crate::names::{interleave_name, sampling_name};
 use crate::shown::Bytes;
 use boxes::{Listing, Packing, Sizes};
 use std::io;
@@ -21,8 +20,8 @@ fn print_blocks(rt: &HostRuntime, packing: &Packing) -> io::Result<()> {
 }
 
 fn print_packing(rt: &HostRuntime, packing: &Packing) -> io::Result<()> {
-    let sampling = sampling_name(packing.sampling);
-    let interleave = interleave_name(packing.interleave);
+    let sampling = packing.sampling;
+    let interleave = packing.interleave;
     println!(rt; "  sampling    {sampling}")?;
     println!(rt; "  interleave  {interleave}")?;
     print_blocks(rt, packing)?;

@@ -1,9 +1,8 @@
-// What a person calls the numbers and choices of the boxes.
+// What a person calls the numbers of the boxes.
 ghost use Rattle.std.specs.Prelude.{◌≡◌};
 ghost use Rattle.std.specs.Option.{option_map};
 ghost use Rattle.reconcile.specs.Names.{standard_name};
 
-use boxes::{Format, Interleave, Sampling};
 use std::alloc::{AllocError, Global};
 
 // A component type of the standard.
@@ -40,33 +39,5 @@ pub(crate) fn component_name(heap: Global, number: Option<u16>) -> Result<String
     match standard_name(number) {
         Some(name) => String::from_str(heap, name),
         None => format!(in heap; "own type {number:#06x}"),
-    }
-}
-
-pub(crate) fn format_name(format: Format) -> &'static str {
-    match format {
-        Format::Integer => "unsigned integer",
-        Format::Float => "float",
-        Format::Complex => "complex",
-    }
-}
-
-pub(crate) fn sampling_name(sampling: Sampling) -> &'static str {
-    match sampling {
-        Sampling::Full => "none",
-        Sampling::Yuv422 => "4:2:2",
-        Sampling::Yuv420 => "4:2:0",
-        Sampling::Yuv411 => "4:1:1",
-    }
-}
-
-pub(crate) fn interleave_name(interleave: Interleave) -> &'static str {
-    match interleave {
-        Interleave::Component => "component",
-        Interleave::Pixel => "pixel",
-        Interleave::Mixed => "mixed",
-        Interleave::Row => "row",
-        Interleave::TileComponent => "tile-component",
-        Interleave::MultiY => "multi-Y",
     }
 }

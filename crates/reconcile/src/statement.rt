@@ -2,7 +2,7 @@
 use crate::arguments::{Frame, Lane};
 use crate::failure::Failure;
 use crate::layout::print_layout;
-use crate::names::{component_name, format_name};
+use crate::names::component_name;
 use crate::received::Received;
 use crate::returned::{Returned, configuration_returned, definition_returned};
 use crate::ringed::same_through_ring;
@@ -42,7 +42,7 @@ fn print_entries(rt: &HostRuntime, boxes: &Boxes, listing: &Listing) -> Result<(
         let index = entry.index;
         let component = component_name(rt.alloc(), boxes.component_type(index))?;
         let bits = entry.depth();
-        let format = format_name(entry.format);
+        let format = entry.format;
         let alignment = Alignment(entry.align);
         println!(rt;
             "  {i:>5}  {index:>5}  {component:<15}  {bits:>4}  {format:<16}  {alignment}"

@@ -92,7 +92,7 @@ fn is_alike(a: &Entry, b: &Entry) -> bool
 {
     a.index != b.index
         || (a.depth_less_one == b.depth_less_one
-            && a.format.number() == b.format.number()
+            && u8::from(a.format) == u8::from(b.format)
             && a.align == b.align)
 }
 

@@ -16,8 +16,8 @@ fn refusal_of(answer: Result<(), Fault>) -> Option<Refusal> {
     match answer {
         Ok(()) => None,
         Err(fault) => Some(Refusal {
-            number: fault.reason.number(),
-            letter: fault.layer.letter(),
+            number: u8::from(fault.reason),
+            letter: char::from(fault.layer),
             place: fault.place,
         }),
     }

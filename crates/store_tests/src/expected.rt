@@ -36,8 +36,8 @@ pub(crate) fn refused_at<T: Drop>(rt: &impl Abort, answer: Result<T, Fault>, at:
     let Err(fault) = answer else {
         panic!(rt; "not refused")
     };
-    assert_eq!(rt; fault.reason.number(), 26);
-    assert_eq!(rt; fault.layer.letter(), 's');
+    assert_eq!(rt; u8::from(fault.reason), 26);
+    assert_eq!(rt; char::from(fault.layer), 's');
     assert_eq!(rt; fault.place, at);
 }
 
