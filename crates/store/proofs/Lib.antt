@@ -1,6 +1,5 @@
 pub mod Answering
 pub mod Counting
-pub mod Octetting
 pub mod Seams
 pub mod Turning
 pub mod Views

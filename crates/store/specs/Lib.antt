@@ -1,4 +1,5 @@
 pub mod Access
+pub mod Bounds
 pub mod Copies
 pub mod Ends
 pub mod Unwritten

@@ -8,9 +8,5 @@ use fault::{Fault, Layer, Reason};
 pub fn out_of_bounds(at: u64) -> Fault
     ensures { result ≡ outside at }
 {
-    Fault {
-        reason: Reason::Bounds,
-        layer: Layer::Store,
-        place: at,
-    }
+    Layer::Store.refuses(Reason::Bounds, at)
 }

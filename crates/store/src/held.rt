@@ -1,14 +1,17 @@
 // All the bytes of a slice, to be read.
 ghost use Rattle.std.specs.Prelude.{◌≡◌};
+ghost use Rattle.store.specs.Access.{Octets};
+ghost use Rattle.store.specs.Bounds.{short_cut, octets_cut};
 ghost use Rattle.store.specs.Ends.{cut};
 
-use crate::slice::{len_of, read_of};
-use crate::source::Source;
+use crate::bounds::out_of_bounds;
+use crate::source::{LIMIT, Source};
 use fault::Fault;
 
 #[derive(Drop)]
 pub struct Held<'a> {
     bytes: &'a [u8],
+    ghost octets: { Octets bytes.now },
 }
 
 impl<'a> Held<'a> {
@@ -30,10 +33,18 @@ impl Source for Held<'_> {
     ghost bytes = { λ s. cut s.bytes.now };
 
     fn len(&self) -> u64 {
-        len_of(self.bytes)
+        (self.bytes.len() as u64).min(LIMIT)
     }
 
     fn read(&self, at: u64) -> Result<u8, Fault> {
-        read_of(self.bytes, at)
+        if at < self.len() {
+            Ok(self.bytes[at as usize])
+        } else {
+            Err(out_of_bounds(at))
+        }
     }
+
+    ghost short = { λ s. short_cut s.bytes.now };
+
+    ghost each = { λ s. octets_cut s.bytes.now s.octets };
 }

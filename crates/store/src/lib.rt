@@ -11,7 +11,6 @@ mod memory;
 mod ramp;
 mod rings;
 mod sameness;
-mod slice;
 mod source;
 mod store;
 mod window;

@@ -1,9 +1,12 @@
-// The whole of a buffer, to be read and written.
+// The whole of a buffer, to be read and written. It stands beside `Held` as an exclusive borrow beside a shared one.
 ghost use Rattle.std.specs.Prelude.{◌≡◌, [], ◌∷◌, drop};
+ghost use Rattle.store.specs.Access.{Octets};
+ghost use Rattle.store.specs.Bounds.{short_cut, octets_cut};
 ghost use Rattle.store.specs.Ends.{cut};
 ghost use Rattle.store.specs.Unwritten.{nothing, along};
 
-use crate::slice::{len_of, read_of, write_to};
+use crate::bounds::out_of_bounds;
+use crate::held::Held;
 use crate::source::Source;
 use crate::store::Store;
 use fault::Fault;
@@ -11,6 +14,7 @@ use fault::Fault;
 #[derive(Drop)]
 pub struct Memory<'a> {
     buffer: &'a mut [u8],
+    ghost octets: { Octets buffer.now },
 }
 
 impl<'a> Memory<'a> {
@@ -35,12 +39,16 @@ impl Source for Memory<'_> {
     ghost bytes = { λ m. cut m.buffer.now };
 
     fn len(&self) -> u64 {
-        len_of(self.buffer)
+        Held::new(self.buffer).len()
     }
 
     fn read(&self, at: u64) -> Result<u8, Fault> {
-        read_of(self.buffer, at)
+        Held::new(self.buffer).read(at)
     }
+
+    ghost short = { λ m. short_cut m.buffer.now };
+
+    ghost each = { λ m. octets_cut m.buffer.now m.octets };
 }
 
 impl Store for Memory<'_> {
@@ -48,6 +56,11 @@ impl Store for Memory<'_> {
     ghost kept = { λ m. along (m.buffer.ghost_name ∷ []) (along (drop 4294967295 m.buffer.now) nothing) };
 
     fn write(&mut self, at: u64, value: u8) -> Result<(), Fault> {
-        write_to(self.buffer, at, value)
+        if at < (*self).len() {
+            self.buffer[at as usize] = value;
+            Ok(())
+        } else {
+            Err(out_of_bounds(at))
+        }
     }
 }

@@ -7,10 +7,7 @@ use crate::source::Source;
 pub(crate) fn byte_at<S: Source>(source: &S, at: u64) -> u8
     ensures { result ≡ slice_index (S.Source.bytes source.now) at }
 {
-    match source.read(at) {
-        Ok(byte) => byte,
-        Err(_) => 0,
-    }
+    source.read(at).unwrap_or(0)
 }
 
 pub fn same_bytes<S: Source, T: Source>(one: &S, other: &T) -> bool

@@ -18,4 +18,9 @@ pub trait Source {
 
     fn read(&self, at: u64) -> Result<u8, Fault>
         ensures { result ≡ read_answer (bytes self.now) at };
+
+    // No source is longer than the limit, and each of its bytes is one.
+    ghost short: { (s : Self) → length (bytes s) ≤ 4294967295 };
+
+    ghost each: { (s : Self) → Octets (bytes s) };
 }

@@ -1,5 +1,7 @@
 // An end that is not the library's: so many zero bytes.
-ghost use Rattle.std.specs.Prelude.{replicate};
+ghost use Rattle.std.specs.Prelude.{◌≤◌, replicate};
+ghost use Rattle.std.proofs.Common.{rules};
+ghost use Rattle.std.proofs.lemmas.Grind.{common_steps};
 
 use fault::Fault;
 use store::{Source, out_of_bounds};
@@ -7,6 +9,7 @@ use store::{Source, out_of_bounds};
 #[derive(Clone, Copy)]
 pub(crate) struct Blank {
     pub(crate) count: u32,
+    ghost short: { count ≤ 4294967295 },
 }
 
 impl Source for Blank {
@@ -23,4 +26,8 @@ impl Source for Blank {
             Err(out_of_bounds(at))
         }
     }
+
+    ghost short = { Prim.search (rules, common_steps) };
+
+    ghost each = { Prim.search (rules, common_steps) };
 }

@@ -1,0 +1,14 @@
+use Rattle.std.proofs.Common.{◌<◌, Err, ap, ◌∙◌, arith, get_or-take, length-take}
+use Rattle.store.proofs.Answering.{read_within, read_past}
+use Rattle.store.proofs.held.HeldSource.read.Goals as goal
+
+pub bounds-self-at : goal.bounds-self-at
+bounds-self-at c = omega (arith, length-take 4294967295 c.args.self.now.bytes.now)
+
+pub returns-then-at-len : goal.returns-then-at-len
+returns-then-at-len c =
+    let l : c.args.at < 4294967295 = omega arith in
+    rw (← get_or-take 4294967295 c.args.self.now.bytes.now c.args.at 0 l) (read_within _ _ (omega arith))
+
+pub returns-else-at-len : goal.returns-else-at-len
+returns-else-at-len c = ap (λ f. Err f) c.out_of_bounds.ensures ∙ read_past _ _ (omega arith)

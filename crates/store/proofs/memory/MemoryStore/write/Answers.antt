@@ -1,0 +1,37 @@
+use Rattle.std.proofs.Common.{ℕ, zero, suc, ◌<◌, List, [], ◌∷◌, set, Err, sym, refl, ap, ◌∙◌, arith, length-take}
+use Rattle.std.proofs.lemmas.List.{set_past, drop-set-lt}
+use Rattle.store.specs.Access.{Octets}
+use Rattle.store.specs.Unwritten.{along, nothing}
+use Rattle.store.proofs.Answering.{write_within, write_past, take_of_set}
+use Rattle.store.proofs.memory.MemoryStore.write.Goals as goal
+
+pub bounds-self-at : goal.bounds-self-at
+bounds-self-at c = omega (arith, length-take 4294967295 c.args.self.now.buffer.now)
+
+-- a byte put among bytes
+octets_set : (bs : List ℕ) (i v : ℕ) → v < 256 → Octets bs → Octets (set bs i v)
+octets_set [] i v k h at = h at
+octets_set (x ∷ xs) zero v k h zero = k
+octets_set (x ∷ xs) zero v k h (suc at) = h (suc at)
+octets_set (x ∷ xs) (suc i) v k h zero = h zero
+octets_set (x ∷ xs) (suc i) v k h (suc at) = octets_set xs i v k (λ j. h (suc j)) at
+
+pub invariant_of-self : goal.invariant_of-self
+invariant_of-self c = record { octets = octets_set c.args.self.now.buffer.now c.args.at c.args.value c.ranges.value.fits c.args.self.now.octets }
+
+pub returns-then-at-len : goal.returns-then-at-len
+returns-then-at-len c =
+    let m = c.args.self.now in
+    record {
+      answer = write_within _ _ (omega arith);
+      after = take_of_set 4294967295 m.buffer.now c.args.at c.args.value;
+      beside = ap (λ rest. along (m.buffer.ghost_name ∷ []) (along rest nothing)) (drop-set-lt 4294967295 m.buffer.now c.args.at c.args.value (omega arith));
+    }
+
+pub returns-else-at-len : goal.returns-else-at-len
+returns-else-at-len c =
+    record {
+      answer = ap (λ f. Err f) c.out_of_bounds.ensures ∙ write_past _ _ (omega arith);
+      after = sym (set_past _ _ _ (omega arith));
+      beside = refl;
+    }
