@@ -1,4 +1,5 @@
 pub mod Answering
+pub mod Comparing
 pub mod Counting
 pub mod Seams
 pub mod Turning

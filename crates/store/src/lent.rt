@@ -1,4 +1,5 @@
-// A source or a store that is lent is one too, so that a window can lie over what someone else owns.
+// A source or a store that is lent is one too, so that a window can lie over what someone else owns. A shared and an exclusive
+// borrow have an impl each, as std's traits have.
 ghost use Rattle.std.specs.Prelude.{[], ◌∷◌};
 ghost use Rattle.store.specs.Unwritten.{along};
 

@@ -3,6 +3,7 @@
 #![tactic(auto)]
 
 mod bounds;
+mod bytes;
 mod copying;
 mod held;
 mod join;

@@ -1,4 +1,5 @@
-// The whole of a buffer, to be read and written. It stands beside `Held` as an exclusive borrow beside a shared one.
+// The whole of a buffer, to be read and written. It stands beside `Held` as IterMut beside Iter: one borrow is exclusive, the
+// other shared.
 ghost use Rattle.std.specs.Prelude.{◌≡◌, [], ◌∷◌, drop};
 ghost use Rattle.store.specs.Access.{Octets};
 ghost use Rattle.store.specs.Bounds.{short_cut, octets_cut};

@@ -17,7 +17,7 @@ pub fn ring<'a>(buffer: &'a mut [u8], start: usize) -> Join<Memory<'a>, Memory<'
     Join::new(Memory::new(after), Memory::new(before))
 }
 
-// The same over bytes that are only read.
+// The same over bytes that are only read: two functions, as split_at_mut and split_at are.
 pub fn held_ring<'a>(bytes: &'a [u8], start: usize) -> Join<Held<'a>, Held<'a>>
     ensures first { result.first.bytes.now ≡ drop start bytes.now }
     ensures second { result.second.bytes.now ≡ take start bytes.now }

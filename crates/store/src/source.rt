@@ -19,7 +19,7 @@ pub trait Source {
     fn read(&self, at: u64) -> Result<u8, Fault>
         ensures { result ≡ read_answer (bytes self.now) at };
 
-    // No source is longer than the limit, and each of its bytes is one.
+    // Of every value, so that code over any source has both without a call.
     ghost short: { (s : Self) → length (bytes s) ≤ 4294967295 };
 
     ghost each: { (s : Self) → Octets (bytes s) };

@@ -9,7 +9,7 @@ use store::{Source, out_of_bounds};
 #[derive(Clone, Copy)]
 pub(crate) struct Blank {
     pub(crate) count: u32,
-    ghost short: { count ≤ 4294967295 },
+    ghost fits: { count ≤ 4294967295 },
 }
 
 impl Source for Blank {

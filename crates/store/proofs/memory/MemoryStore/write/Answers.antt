@@ -17,7 +17,7 @@ octets_set (x ∷ xs) (suc i) v k h zero = h zero
 octets_set (x ∷ xs) (suc i) v k h (suc at) = octets_set xs i v k (λ j. h (suc j)) at
 
 pub invariant_of-self : goal.invariant_of-self
-invariant_of-self c = record { octets = octets_set c.args.self.now.buffer.now c.args.at c.args.value c.ranges.value.fits c.args.self.now.octets }
+invariant_of-self c = record { octets = octets_set c.args.self.now.buffer.now c.args.at _ (omega (arith, c.args.self.now.octets c.args.at)) c.args.self.now.octets }
 
 pub returns-then-at-len : goal.returns-then-at-len
 returns-then-at-len c =
