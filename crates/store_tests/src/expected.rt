@@ -41,29 +41,33 @@ pub(crate) fn refused_at<T: Drop>(rt: &impl Abort, answer: Result<T, Fault>, at:
     assert_eq!(rt; fault.place, at);
 }
 
+// Byte numbers at and past the length.
+fn past(count: u64) -> [u64; 3] {
+    [count, count.saturating_add(1), u64::MAX]
+}
+
 // The source has these bytes and no others, and refuses what lies past them.
 pub(crate) fn holds<S: Source>(rt: &impl Abort, source: &S, bytes: &[u8]) {
     let count = bytes.len() as u64;
     assert_eq!(rt; source.len(), count);
-    for (at, byte) in bytes.iter().enumerate() {
-        assert_eq!(rt; source.read(at as u64), Ok(*byte), "byte {at}");
+    for (at, byte) in (0..count).zip(bytes) {
+        assert_eq!(rt; source.read(at), Ok(*byte), "byte {at}");
     }
-    for past in [count, count.saturating_add(1), u64::MAX] {
-        refused_at(rt, source.read(past), past);
+    for at in past(count) {
+        refused_at(rt, source.read(at), at);
     }
 }
 
 // The store, which has these bytes, takes another value at each of them, and at no other.
 pub(crate) fn takes<S: Store>(rt: &impl Abort, store: &mut S, bytes: &mut [u8]) {
-    let count = bytes.len();
-    for at in 0..count {
-        let value = bytes[at] ^ 0xff;
-        bytes[at] = value;
-        assert_eq!(rt; store.write(at as u64, value), Ok(()));
+    // By place, since each turn looks at all the bytes.
+    for at in 0..bytes.len() {
+        bytes[at] ^= 0xff;
+        assert_eq!(rt; store.write(at as u64, bytes[at]), Ok(()));
         holds(rt, store, bytes);
     }
-    for past in [count as u64, (count as u64).saturating_add(1), u64::MAX] {
-        refused_at(rt, store.write(past, 1), past);
+    for at in past(bytes.len() as u64) {
+        refused_at(rt, store.write(at, 1), at);
     }
     holds(rt, store, bytes);
 }

@@ -7,12 +7,14 @@ use store::{Held, Join, Memory, Ramp, Window, copy};
 fn copies(rt: HostRuntime) {
     let mut buffer = [9; 4];
     let mut memory = Memory::new(&mut buffer);
-    assert_eq!(rt; copy(&Ramp::new(0), &mut memory), 0);
-    holds(&rt, &memory, &[9, 9, 9, 9]);
-    assert_eq!(rt; copy(&Ramp::new(2), &mut memory), 2);
-    holds(&rt, &memory, &[0, 1, 9, 9]);
-    assert_eq!(rt; copy(&Ramp::new(u64::MAX), &mut memory), 4);
-    holds(&rt, &memory, &[0, 1, 2, 3]);
+    for (length, copied, after) in [
+        (0, 0, [9, 9, 9, 9]),
+        (2, 2, [0, 1, 9, 9]),
+        (u64::MAX, 4, [0, 1, 2, 3]),
+    ] {
+        assert_eq!(rt; copy(&Ramp::new(length), &mut memory), copied);
+        holds(&rt, &memory, &after);
+    }
 }
 
 // A window over a join of windows of memory.
