@@ -1,7 +1,6 @@
 -- What a read and a write answer, within the length and past it.
 use Rattle.std.proofs.Common.{◌≡◌, ℕ, zero, suc, ◌<◌, ◌≤◌, List, [], ◌∷◌, length, get_or, take, set, Ok, Err, sym, refl, ap, ◌∙◌, arith}
 use Rattle.std.proofs.lemmas.Bool.Decides.{nat_tests}
-use Rattle.std.proofs.lemmas.List.{get_or_past}
 use Rattle.fault.specs.declared.fault.Fault.{Fault}
 use Rattle.store.specs.Access.{outside, read_answer, write_answer}
 
@@ -9,14 +8,14 @@ module _ (bs : List ℕ) (at : ℕ) where
   pub read_within : at < length bs → Ok (get_or bs at 0) ≡ read_answer bs at
   read_within h = grind (arith, nat_tests)
 
-  pub read_past : length bs ≤ at → Err (outside at) ≡ read_answer bs at
-  read_past h = grind (arith, nat_tests)
+  pub read_past : {f : Fault} → f ≡ outside at → length bs ≤ at → Err f ≡ read_answer bs at
+  read_past e h = ap (λ f. Err f) e ∙ grind (arith, nat_tests)
 
   pub write_within : at < length bs → Ok tt ≡ write_answer bs at
   write_within h = grind (arith, nat_tests)
 
-  pub write_past : length bs ≤ at → Err (outside at) ≡ write_answer bs at
-  write_past h = grind (arith, nat_tests)
+  pub write_past : {f : Fault} → f ≡ outside at → length bs ≤ at → Err f ≡ write_answer bs at
+  write_past e h = ap (λ f. Err f) e ∙ grind (arith, nat_tests)
 
 -- two calls, each within its list
 module _ (xs ys : List ℕ) (i j : ℕ) (h : i < length xs) (k : j < length ys) where
@@ -31,7 +30,3 @@ take_of_set zero bs i v = refl
 take_of_set (suc n) [] i v = refl
 take_of_set (suc n) (x ∷ xs) zero v = refl
 take_of_set (suc n) (x ∷ xs) (suc i) v = ap (λ l. x ∷ l) (take_of_set n xs i v)
-
--- past the length there is no byte
-pub refused_reads_none : (bs : List ℕ) (at : ℕ) (f : Fault) → Err f ≡ read_answer bs at → 0 ≡ get_or bs at 0
-refused_reads_none bs at f e = sym (get_or_past bs at 0 (grind (arith, nat_tests)))

@@ -1,4 +1,4 @@
-use Rattle.std.proofs.Common.{◌<◌, Err, ap, ◌∙◌, arith, get_or-take, length-take}
+use Rattle.std.proofs.Common.{◌<◌, arith, get_or-take, length-take}
 use Rattle.store.proofs.Answering.{read_within, read_past}
 use Rattle.store.proofs.held.HeldSource.read.Goals as goal
 
@@ -11,4 +11,4 @@ returns-then-at-len c =
     rw (← get_or-take 4294967295 c.args.self.now.bytes.now c.args.at 0 l) (read_within _ _ (omega arith))
 
 pub returns-else-at-len : goal.returns-else-at-len
-returns-else-at-len c = ap (λ f. Err f) c.out_of_bounds.ensures ∙ read_past _ _ (omega arith)
+returns-else-at-len c = read_past _ _ c.out_of_bounds.ensures (omega arith)

@@ -1,4 +1,4 @@
-use Rattle.std.proofs.Common.{ℕ, List, Err, ap, ◌∙◌, arith}
+use Rattle.std.proofs.Common.{ℕ, List, ◌∙◌, arith}
 use Rattle.store.proofs.Answering.{read_past}
 use Rattle.store.proofs.Seams.{read_first, read-second}
 use Rattle.store.proofs.join.JoinSource.read.Goals as goal
@@ -16,4 +16,4 @@ returns-then-at-len g c =
     c.read-then-at-len.ensures ∙ rw c.len-seam.ensures.is (read-second 4294967295 xs ys c.args.at (omega arith) (omega arith))
 
 pub returns-else-at-len : goal.returns-else-at-len
-returns-else-at-len g c = ap (λ f. Err f) c.out_of_bounds.ensures ∙ read_past _ _ (omega arith)
+returns-else-at-len g c = read_past _ _ c.out_of_bounds.ensures (omega arith)

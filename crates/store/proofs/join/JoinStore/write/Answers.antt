@@ -1,4 +1,4 @@
-use Rattle.std.proofs.Common.{ℕ, List, ◌++◌, take, Err, sym, refl, ap, ◌∙◌, arith}
+use Rattle.std.proofs.Common.{ℕ, List, ◌++◌, take, sym, refl, ap, ◌∙◌, arith}
 use Rattle.std.proofs.lemmas.List.{set_past}
 use Rattle.store.proofs.Answering.{write_past}
 use Rattle.store.proofs.Seams.{write-first, write-second, set_first, set-second, kept-first, kept_second}
@@ -27,7 +27,7 @@ returns-then-at-len g c =
 pub returns-else-at-len : goal.returns-else-at-len
 returns-else-at-len g c =
     record {
-      answer = ap (λ f. Err f) c.out_of_bounds.ensures ∙ write_past _ _ (omega arith);
+      answer = write_past _ _ c.out_of_bounds.ensures (omega arith);
       after = sym (set_past _ _ _ (omega arith));
       beside = refl;
     }

@@ -1,4 +1,4 @@
-use Rattle.std.proofs.Common.{ℕ, zero, suc, ◌<◌, List, [], ◌∷◌, set, Err, sym, refl, ap, ◌∙◌, arith, length-take}
+use Rattle.std.proofs.Common.{ℕ, zero, suc, ◌<◌, List, [], ◌∷◌, set, sym, refl, ap, arith, length-take}
 use Rattle.std.proofs.lemmas.List.{set_past, drop-set-lt}
 use Rattle.store.specs.Access.{Octets}
 use Rattle.store.specs.Unwritten.{along, nothing}
@@ -31,7 +31,7 @@ returns-then-at-len c =
 pub returns-else-at-len : goal.returns-else-at-len
 returns-else-at-len c =
     record {
-      answer = ap (λ f. Err f) c.out_of_bounds.ensures ∙ write_past _ _ (omega arith);
+      answer = write_past _ _ c.out_of_bounds.ensures (omega arith);
       after = sym (set_past _ _ _ (omega arith));
       beside = refl;
     }

@@ -1,4 +1,4 @@
-use Rattle.std.proofs.Common.{ℕ, List, Err, sym, refl, ap, ◌∙◌, arith}
+use Rattle.std.proofs.Common.{ℕ, List, sym, refl, ap, ◌∙◌, arith}
 use Rattle.std.proofs.lemmas.List.{set_past}
 use Rattle.store.specs.Ends.{window_bytes}
 use Rattle.store.proofs.Answering.{write_past}
@@ -23,7 +23,7 @@ returns-then-at-len g c =
 pub returns-else-at-len : goal.returns-else-at-len
 returns-else-at-len g c =
     record {
-      answer = ap (λ f. Err f) c.out_of_bounds.ensures ∙ write_past _ _ (omega arith);
+      answer = write_past _ _ c.out_of_bounds.ensures (omega arith);
       after = sym (set_past _ _ _ (omega arith));
       beside = refl;
     }
