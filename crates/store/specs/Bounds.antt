@@ -5,7 +5,7 @@ use Rattle.std.proofs.Common.{zero, suc, sym, subst, lit<, length-take, length-d
 use Rattle.std.proofs.Math.Nat.{min-le_left, min-le_right, le_trans, lt_trans, sub-le, mod-lt}
 use Rattle.std.proofs.lemmas.List.FromFn.{length-map-range_with_len}
 use Rattle.store.specs.Access.{Octets}
-use Rattle.store.specs.Ends.{cut, ramp_bytes, window_bytes, join_bytes}
+use Rattle.store.specs.Ends.{most_bytes, cut, ramp_bytes, window_bytes, join_bytes}
 
 -- parts of bytes are bytes, and bytes put together too
 pub octets_take : (n : ℕ) (bs : List ℕ) → Octets bs → Octets (take n bs)
@@ -29,22 +29,22 @@ octets_rounds a zero at = lit< tt
 octets_rounds a (suc n) zero = lt_trans (mod-lt a (lit< tt)) (lit< tt)
 octets_rounds a (suc n) (suc at) = octets_rounds (a + 1) n at
 
-pub short_cut : (bs : List ℕ) → length (cut bs) ≤ 4294967295
-short_cut bs = subst (λ n. n ≤ 4294967295) (sym (length-take 4294967295 bs)) (min-le_left 4294967295 (length bs))
+pub short_cut : (bs : List ℕ) → length (cut bs) ≤ most_bytes
+short_cut bs = subst (λ n. n ≤ most_bytes) (sym (length-take most_bytes bs)) (min-le_left most_bytes (length bs))
 
 pub octets_cut : (bs : List ℕ) → Octets bs → Octets (cut bs)
-octets_cut bs h = octets_take 4294967295 bs h
+octets_cut bs h = octets_take most_bytes bs h
 
-pub short_ramp : (count : ℕ) → length (ramp_bytes count) ≤ 4294967295
+pub short_ramp : (count : ℕ) → length (ramp_bytes count) ≤ most_bytes
 unfolding ramp_bytes
-short_ramp count = subst (λ n. n ≤ 4294967295) (sym (length-map-range_with_len (λ at. at % 251) 0 (min 4294967295 count))) (min-le_left 4294967295 count)
+short_ramp count = subst (λ n. n ≤ most_bytes) (sym (length-map-range_with_len (λ at. at % 251) 0 (min most_bytes count))) (min-le_left most_bytes count)
 
 pub octets_ramp : (count : ℕ) → Octets (ramp_bytes count)
 unfolding ramp_bytes
-octets_ramp count = octets_rounds 0 (min 4294967295 count)
+octets_ramp count = octets_rounds 0 (min most_bytes count)
 
 module _ (start count : ℕ) (bs : List ℕ) where
-  pub short_window : length bs ≤ 4294967295 → length (window_bytes start count bs) ≤ 4294967295
+  pub short_window : length bs ≤ most_bytes → length (window_bytes start count bs) ≤ most_bytes
   short_window h =
       let rest : length (drop start bs) ≤ length bs = subst (λ n. n ≤ length bs) (sym (length-drop start bs)) (sub-le (length bs) start) in
       let part : length (take count (drop start bs)) ≤ length (drop start bs) = subst (λ n. n ≤ length (drop start bs)) (sym (length-take count (drop start bs))) (min-le_right count (length (drop start bs))) in

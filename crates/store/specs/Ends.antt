@@ -2,12 +2,19 @@
 use Rattle.std.specs.Prelude.{ℕ, ◌%◌, min, List, ◌++◌, map, take, drop}
 use Rattle.std.specs.List.{range_with_len}
 
--- no source is longer than the limit
+-- no source is longer than this
+abbrev pub most_bytes : ℕ
+most_bytes = 4294967295
+
 abbrev pub cut : List ℕ → List ℕ
-cut bytes = take 4294967295 bytes
+cut bytes = take most_bytes bytes
+
+-- what no source reaches
+abbrev pub past_limit : List ℕ → List ℕ
+past_limit bytes = drop most_bytes bytes
 
 unfoldable pub ramp_bytes : ℕ → List ℕ
-ramp_bytes count = map (λ at. at % 251) (range_with_len 0 (min 4294967295 count))
+ramp_bytes count = map (λ at. at % 251) (range_with_len 0 (min most_bytes count))
 
 -- from the start on, as many as are asked for or as there are
 abbrev pub window_bytes : ℕ → ℕ → List ℕ → List ℕ

@@ -1,7 +1,7 @@
 // One after another.
-ghost use Rattle.std.specs.Prelude.{◌≡◌, [], ◌∷◌, ◌++◌, length, drop};
+ghost use Rattle.std.specs.Prelude.{◌≡◌, [], ◌∷◌, ◌++◌, length};
 ghost use Rattle.store.specs.Bounds.{short_cut, octets_join};
-ghost use Rattle.store.specs.Ends.{join_bytes};
+ghost use Rattle.store.specs.Ends.{past_limit, join_bytes};
 ghost use Rattle.store.specs.Unwritten.{along, both};
 
 use crate::bounds::out_of_bounds;
@@ -55,7 +55,7 @@ impl<A: Source, B: Source> Source for Join<A, B> {
 
 impl<A: Store, B: Store> Store for Join<A, B> {
     // Where the seam is, the bytes past the limit, and what each part keeps.
-    ghost kept = { λ j. along (length (A.Source.bytes j.first) ∷ []) (along (drop 4294967295 (A.Source.bytes j.first ++ B.Source.bytes j.second)) (both (A.Store.kept j.first) (B.Store.kept j.second))) };
+    ghost kept = { λ j. along (length (A.Source.bytes j.first) ∷ []) (along (past_limit (A.Source.bytes j.first ++ B.Source.bytes j.second)) (both (A.Store.kept j.first) (B.Store.kept j.second))) };
 
     fn write(&mut self, at: u64, value: u8) -> Result<(), Fault> {
         let seam = self.first.len();

@@ -1,9 +1,9 @@
 // The whole of a buffer, to be read and written. It stands beside `Held` as IterMut beside Iter: one borrow is exclusive, the
 // other shared.
-ghost use Rattle.std.specs.Prelude.{◌≡◌, [], ◌∷◌, drop};
+ghost use Rattle.std.specs.Prelude.{◌≡◌, [], ◌∷◌};
 ghost use Rattle.store.specs.Access.{Octets};
 ghost use Rattle.store.specs.Bounds.{short_cut, octets_cut};
-ghost use Rattle.store.specs.Ends.{cut};
+ghost use Rattle.store.specs.Ends.{cut, past_limit};
 ghost use Rattle.store.specs.Unwritten.{nothing, along};
 
 use crate::bounds::out_of_bounds;
@@ -54,7 +54,7 @@ impl Source for Memory<'_> {
 
 impl Store for Memory<'_> {
     // Which buffer it is, and its bytes past the limit.
-    ghost kept = { λ m. along (m.buffer.ghost_name ∷ []) (along (drop 4294967295 m.buffer.now) nothing) };
+    ghost kept = { λ m. along (m.buffer.ghost_name ∷ []) (along (past_limit m.buffer.now) nothing) };
 
     fn write(&mut self, at: u64, value: u8) -> Result<(), Fault> {
         if at < (*self).len() {

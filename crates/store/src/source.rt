@@ -1,6 +1,7 @@
 // Bytes that can be read.
 ghost use Rattle.std.specs.Prelude.{◌≡◌, ℕ, ◌≤◌, List, length};
 ghost use Rattle.store.specs.Access.{Octets, read_answer};
+ghost use Rattle.store.specs.Ends.{most_bytes};
 
 use fault::Fault;
 
@@ -13,14 +14,14 @@ pub trait Source {
 
     fn len(&self) -> u64
         ensures is { result ≡ length (bytes self.now) }
-        ensures short { result ≤ 4294967295 }
+        ensures short { result ≤ most_bytes }
         ensures each { Octets (bytes self.now) };
 
     fn read(&self, at: u64) -> Result<u8, Fault>
         ensures { result ≡ read_answer (bytes self.now) at };
 
     // Of every value, so that code over any source has both without a call.
-    ghost short: { (s : Self) → length (bytes s) ≤ 4294967295 };
+    ghost short: { (s : Self) → length (bytes s) ≤ most_bytes };
 
     ghost each: { (s : Self) → Octets (bytes s) };
 }

@@ -2,6 +2,7 @@
 ghost use Rattle.std.specs.Prelude.{◌≤◌, replicate};
 ghost use Rattle.std.proofs.Common.{rules};
 ghost use Rattle.std.proofs.lemmas.Grind.{common_steps};
+ghost use Rattle.store.specs.Ends.{most_bytes};
 
 use fault::Fault;
 use store::{Source, out_of_bounds};
@@ -9,7 +10,7 @@ use store::{Source, out_of_bounds};
 #[derive(Clone, Copy)]
 pub(crate) struct Blank {
     pub(crate) count: u32,
-    ghost fits: { count ≤ 4294967295 },
+    ghost fits: { count ≤ most_bytes },
 }
 
 impl Source for Blank {

@@ -1,4 +1,5 @@
 use Rattle.std.proofs.Common.{◌≡◌, ℕ, min, List, length, take, drop, ap, ◌∙◌, arith}
+use Rattle.store.specs.Ends.{most_bytes}
 use Rattle.store.proofs.Turning.{turned, split_after, split_before}
 use Rattle.store.proofs.rings.ring.Goals as goal
 
@@ -15,4 +16,4 @@ returns c =
     let second : r.second.buffer.now ≡ take start buffer =
     ap (λ m. m.buffer.now) c.new-3.ensures.1 ∙ c.new-2.ensures.value
     ∙ split_before start c.min.result buffer split.result.0.now split.result.1.now split.ensures.value split.ensures.front_len mid in
-    record { first = first; second = second; bytes = turned 4294967295 start buffer r.first.buffer.now r.second.buffer.now first second }
+    record { first = first; second = second; bytes = turned most_bytes start buffer r.first.buffer.now r.second.buffer.now first second }

@@ -1,12 +1,13 @@
 use Rattle.std.proofs.Common.{ℕ, zero, suc, ◌<◌, List, [], ◌∷◌, set, sym, refl, ap, arith, length-take}
 use Rattle.std.proofs.lemmas.List.{set_past, drop-set-lt}
+use Rattle.store.specs.Ends.{most_bytes}
 use Rattle.store.specs.Access.{Octets}
 use Rattle.store.specs.Unwritten.{along, nothing}
 use Rattle.store.proofs.Answering.{write_within, write_past, take_of_set}
 use Rattle.store.proofs.memory.MemoryStore.write.Goals as goal
 
 pub bounds-self-at : goal.bounds-self-at
-bounds-self-at c = omega (arith, length-take 4294967295 c.args.self.now.buffer.now)
+bounds-self-at c = omega (arith, length-take most_bytes c.args.self.now.buffer.now)
 
 -- a byte put among bytes
 octets_set : (bs : List ℕ) (i v : ℕ) → v < 256 → Octets bs → Octets (set bs i v)
@@ -24,8 +25,8 @@ returns-then-at-len c =
     let m = c.args.self.now in
     record {
       answer = write_within _ _ (omega arith);
-      after = take_of_set 4294967295 m.buffer.now c.args.at c.args.value;
-      beside = ap (λ rest. along (m.buffer.ghost_name ∷ []) (along rest nothing)) (drop-set-lt 4294967295 m.buffer.now c.args.at c.args.value (omega arith));
+      after = take_of_set most_bytes m.buffer.now c.args.at c.args.value;
+      beside = ap (λ rest. along (m.buffer.ghost_name ∷ []) (along rest nothing)) (drop-set-lt most_bytes m.buffer.now c.args.at c.args.value (omega arith));
     }
 
 pub returns-else-at-len : goal.returns-else-at-len
