@@ -4,4 +4,4 @@ pub mod Components
 pub mod Floating
 pub mod Floats
 pub mod Paired
-pub mod Singles
+pub mod Patterns

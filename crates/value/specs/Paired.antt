@@ -1,6 +1,6 @@
 -- Complex numbers and their codes, from what holds of each part.
 use Rattle.std.specs.Prelude.{◌≡◌, ℕ, ◌+◌, ◌*◌, ◌/◌, ◌%◌, ◌^◌, ◌<◌, Ok, Err, Result, refl}
-use Rattle.std.proofs.Common.{sym, ◌∙◌, ap, ltb-true}
+use Rattle.std.proofs.Common.{◌∙◌, ap, ltb-true}
 use Rattle.std.proofs.Math.Nat.{div-lt_iff_lt-mul, mod-lt}
 use Rattle.std.proofs.lemmas.Nat.{div-mul-add, mod-mul-add, div-add-mod'}
 use Rattle.std.specs.Float.{binary32}
@@ -14,20 +14,11 @@ use Rattle.value.specs.Floating as float
 -- what came before an accepted step
 then_ok : {A B P : Type 0} (r : Result A Fault) (f : A → Result B Fault) (y : B) → then r f ≡ Ok y → ((x : A) → r ≡ Ok x → f x ≡ Ok y → P) → P
 then_ok (Ok x) f y h k = k x refl h
-then_ok (Err e) f y h k = float.not_ok e y h
+then_ok (Err e) f y h k = cc
 
 -- two accepted steps
 both : {A B C : Type 0} {r : Result A Fault} {s : Result B Fault} {x : A} {y : B} (f : A → B → C) → r ≡ Ok x → s ≡ Ok y → then r (λ a. then s (λ b. Ok (f a b))) ≡ Ok (f x y)
-both {s = s} {x = x} f e h = ap (λ r. then r (λ a. then s (λ b. Ok (f a b)))) e ∙ ap (λ s. then s (λ b. Ok (f x b))) h
-
-upper : (a b n : ℕ) → b < 2 ^ 32 → a * half + b ≡ n → n / half ≡ a
-upper a b n h e = ap (λ m. m / half) (sym e) ∙ div-mul-add a half b h
-
-lower : (a b n : ℕ) → b < 2 ^ 32 → a * half + b ≡ n → n % half ≡ b
-lower a b n h e = ap (λ m. m % half) (sym e) ∙ mod-mul-add a half b h
-
-joined : (n : ℕ) → n / half * half + n % half ≡ n
-joined n = div-add-mod' n half
+both f e h = simp (e, h)
 
 some : 0 < half
 some = ltb-true 0 half refl
@@ -38,18 +29,21 @@ back z n fit h =
     (λ a ha rest. then_ok (float_code binary32 z.im) _ n rest
     (λ b hb e.
     let small : b < 2 ^ 32 = float.code_small binary32 z.im b fit.1 hb in
-    let sum = float.ok_same (a * half + b) n e in
+    let sum : a * half + b ≡ n = cc in
+    let upper : n / half ≡ a = rw (← sum) (div-mul-add a half b small) in
+    let lower : n % half ≡ b = rw (← sum) (mod-mul-add a half b small) in
     both (λ x y. record { re = x; im = y })
-    (ap (float_of binary32) (upper a b n small sum) ∙ float.back binary32 z.re a fit.0 ha)
-    (ap (float_of binary32) (lower a b n small sum) ∙ float.back binary32 z.im b fit.1 hb)))
+    (ap (float_of binary32) upper ∙ float.back binary32 z.re a fit.0 ha)
+    (ap (float_of binary32) lower ∙ float.back binary32 z.im b fit.1 hb)))
 
 pub again : (n : ℕ) (z : Complex) → n < 2 ^ 64 → complex_of n ≡ Ok z → complex_code z ≡ Ok n
 again n z small h =
     then_ok (float_of binary32 (n / half)) _ z h
     (λ x hx rest. then_ok (float_of binary32 (n % half)) _ z rest
     (λ y hy e.
-    ap complex_code (sym (float.ok_same (record { re = x; im = y }) z e))
+    let parts : z ≡ record { re = x; im = y } = cc in
+    ap complex_code parts
     ∙ both (λ a b. a * half + b)
     (float.again binary32 (n / half) x ((div-lt_iff_lt-mul some).1 small) hx)
     (float.again binary32 (n % half) y (mod-lt n some) hy)
-    ∙ ap Ok (joined n)))
+    ∙ ap Ok (div-add-mod' n half)))

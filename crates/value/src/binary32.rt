@@ -1,49 +1,53 @@
 // The floats of 32 bits.
-ghost use Rattle.std.specs.Prelude.{T};
+ghost use Rattle.std.specs.Prelude.{◌^◌, nat_lt, refl};
 ghost use Rattle.std.specs.Float.{binary32};
-ghost use Rattle.std.specs.Float.Ieee.{fits};
-ghost use Rattle.value.specs.Components.{floats_of};
-ghost use Rattle.value.specs.Floats.{float_code, single_of};
-ghost use Rattle.value.specs.Singles as single;
+ghost use Rattle.value.specs.Patterns.{binary32_laws};
 
-use crate::kind::{Kind, refusal};
-use crate::pattern::{bits_of, float_of};
-use choices::Format;
-use fault::{Fault, Reason};
+use crate::binary::Binary;
+use crate::pattern::Pattern;
 
-pub enum Binary32 {}
+pub type Binary32 = Binary<f32>;
 
-impl Kind for Binary32 {
-    type Value = f32;
+impl Pattern for f32 {
+    const BITS: u16 = 32;
 
-    ghost accepts = { floats_of 32 };
+    const SIGN: u64 = 0x8000_0000;
 
-    ghost held = { λ x. T (fits binary32 x) };
+    const INFINITY: u64 = 0x7f80_0000;
 
-    ghost encodes = { float_code binary32 };
+    ghost BITS = { 32 };
 
-    ghost decodes = { single_of };
+    ghost SIGN = { 0x8000_0000 };
 
-    ghost back = { single.back };
+    ghost INFINITY = { 0x7f80_0000 };
 
-    ghost again = { single.again };
+    ghost width = { binary32 };
 
-    fn takes(format: Format, depth: u16) -> bool {
-        match format {
-            Format::Float => depth == 32,
-            Format::Integer | Format::Complex => false,
-        }
+    ghost float = { λ x. x };
+
+    ghost of_float = { λ x. x };
+
+    ghost room = { λ code. nat_lt code (2 ^ 32) };
+
+    ghost sign_is = { refl };
+
+    ghost infinity_is = { refl };
+
+    ghost laws = { binary32_laws };
+
+    fn has_room(code: u64) -> bool {
+        code <= u64::from(u32::MAX)
     }
 
-    fn encode(value: f32) -> Result<u64, Fault> {
-        let bits = bits_of(value)?;
-        Ok(u64::from(bits))
+    fn is_number(self) -> bool {
+        !self.is_nan()
     }
 
-    fn decode(code: u64) -> Result<f32, Fault> {
-        let Ok(bits) = u32::try_from(code) else {
-            return Err(refusal(Reason::Code));
-        };
-        float_of(bits)
+    fn to_code(self) -> u64 {
+        u64::from(self.to_bits())
+    }
+
+    fn of_code(code: u64) -> f32 {
+        f32::from_bits(code as u32)
     }
 }

@@ -1,57 +1,53 @@
 // The floats of 64 bits.
-ghost use Rattle.std.specs.Prelude.{T};
+ghost use Rattle.std.specs.Prelude.{true, refl};
 ghost use Rattle.std.specs.Float.{binary64};
-ghost use Rattle.std.specs.Float.Ieee.{fits};
-ghost use Rattle.value.specs.Components.{floats_of};
-ghost use Rattle.value.specs.Floats.{float_code, float_of};
-ghost use Rattle.value.specs.Floating as float;
+ghost use Rattle.value.specs.Patterns.{binary64_laws};
 
-use crate::kind::{Kind, refusal};
-use choices::Format;
-use fault::{Fault, Reason};
+use crate::binary::Binary;
+use crate::pattern::Pattern;
 
-// The bits of infinity. Above them, the sign left out, lies every pattern that is not a number.
-const INFINITY: u64 = 0x7ff0_0000_0000_0000;
+pub type Binary64 = Binary<f64>;
 
-// The weight of the sign's bit.
-const SIGN: u64 = 0x8000_0000_0000_0000;
+impl Pattern for f64 {
+    const BITS: u16 = 64;
 
-pub enum Binary64 {}
+    const SIGN: u64 = 0x8000_0000_0000_0000;
 
-impl Kind for Binary64 {
-    type Value = f64;
+    const INFINITY: u64 = 0x7ff0_0000_0000_0000;
 
-    ghost accepts = { floats_of 64 };
+    ghost BITS = { 64 };
 
-    ghost held = { λ x. T (fits binary64 x) };
+    ghost SIGN = { 0x8000_0000_0000_0000 };
 
-    ghost encodes = { float_code binary64 };
+    ghost INFINITY = { 0x7ff0_0000_0000_0000 };
 
-    ghost decodes = { float_of binary64 };
+    ghost width = { binary64 };
 
-    ghost back = { float.back binary64 };
+    ghost float = { λ x. x };
 
-    ghost again = { float.again binary64 };
+    ghost of_float = { λ x. x };
 
-    fn takes(format: Format, depth: u16) -> bool {
-        match format {
-            Format::Float => depth == 64,
-            Format::Integer | Format::Complex => false,
-        }
+    ghost room = { λ code. true };
+
+    ghost sign_is = { refl };
+
+    ghost infinity_is = { refl };
+
+    ghost laws = { binary64_laws };
+
+    fn has_room(code: u64) -> bool {
+        true
     }
 
-    fn encode(value: f64) -> Result<u64, Fault> {
-        if value.is_nan() {
-            return Err(refusal(Reason::NotANumber));
-        }
-        Ok(value.to_bits())
+    fn is_number(self) -> bool {
+        !self.is_nan()
     }
 
-    #[tactic(auto, using(crate::proofs::Patterns::refuses, crate::proofs::Patterns::is_number, crate::proofs::Patterns::answers))]
-    fn decode(code: u64) -> Result<f64, Fault> {
-        if code % SIGN > INFINITY {
-            return Err(refusal(Reason::NotANumber));
-        }
-        Ok(f64::from_bits(code))
+    fn to_code(self) -> u64 {
+        self.to_bits()
+    }
+
+    fn of_code(code: u64) -> f64 {
+        f64::from_bits(code)
     }
 }

@@ -3,8 +3,8 @@ ghost use Rattle.value.specs.Complexes.{complex_code, complex_of, parts_fit};
 ghost use Rattle.value.specs.Components.{complexes_of};
 ghost use Rattle.value.specs.Paired as paired;
 
+use crate::binary32::Binary32;
 use crate::kind::Kind;
-use crate::pattern::{bits_of, float_of};
 use choices::Format;
 use fault::Fault;
 
@@ -14,9 +14,6 @@ pub struct Complex {
     pub re: f32,
     pub im: f32,
 }
-
-// How many codes one part has.
-const HALF: u64 = 0x1_0000_0000;
 
 pub enum ComplexBinary32 {}
 
@@ -36,21 +33,19 @@ impl Kind for ComplexBinary32 {
     ghost again = { paired.again };
 
     fn takes(format: Format, depth: u16) -> bool {
-        match format {
-            Format::Complex => depth == 64,
-            Format::Integer | Format::Float => false,
-        }
+        format == Format::Complex && depth == 64
     }
 
+    #[tactic(auto, using(crate::proofs::Parts::joined))]
     fn encode(value: Complex) -> Result<u64, Fault> {
-        let re = bits_of(value.re)?;
-        let im = bits_of(value.im)?;
-        Ok(u64::from(re) * HALF + u64::from(im))
+        let re = Binary32::encode(value.re)?;
+        let im = Binary32::encode(value.im)?;
+        Ok(re << 32 | im)
     }
 
     fn decode(code: u64) -> Result<Complex, Fault> {
-        let re = float_of((code / HALF) as u32)?;
-        let im = float_of((code % HALF) as u32)?;
+        let re = Binary32::decode(code >> 32)?;
+        let im = Binary32::decode(code & 0xffff_ffff)?;
         Ok(Complex { re, im })
     }
 }

@@ -1,8 +1,6 @@
 // Kinds of values, and what is said once for all of them.
 ghost use Rattle.std.specs.Prelude.{◌≡◌, ℕ, ◌^◌, ◌<◌, Bool, Ok, Result};
-ghost use Rattle.fault.specs.Faults.{fault};
 ghost use Rattle.fault.specs.declared.fault.Fault.{Fault};
-ghost use Rattle.fault.specs.declared.layer.Layer.TheVariants.{Frame};
 ghost use Rattle.choices.specs.declared.choice.Format.{Format};
 ghost use Rattle.value.specs.Coded.{unless_refused};
 ghost use Rattle.value.specs.Components.{taken_or};
@@ -49,7 +47,7 @@ pub fn check_kind<K: Kind>(format: Format, depth: u16) -> Result<(), Fault>
     if K::takes(format, depth) {
         Ok(())
     } else {
-        Err(refusal(Reason::Kind))
+        Err(Layer::Frame.refuses(Reason::Kind, 0))
     }
 }
 
@@ -67,15 +65,4 @@ pub fn through_value<K: Kind>(code: u64) -> Result<u64, Fault>
 {
     let value = K::decode(code)?;
     K::encode(value)
-}
-
-// A value stands alone, so its place is 0.
-pub(crate) fn refusal(reason: Reason) -> Fault
-    ensures { result ≡ fault reason Frame 0 }
-{
-    Fault {
-        reason,
-        layer: Layer::Frame,
-        place: 0,
-    }
 }

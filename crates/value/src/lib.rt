@@ -2,6 +2,7 @@
 
 #![tactic(auto)]
 
+mod binary;
 mod binary32;
 mod binary64;
 mod complex;

@@ -1,32 +1,54 @@
-// Floats of 32 bits and their bits, which stand alone and as parts of complex numbers.
-ghost use Rattle.std.specs.Prelude.{◌≡◌};
-ghost use Rattle.std.specs.Float.{binary32};
-ghost use Rattle.value.specs.Floats.{float_code, float_of};
+// A float as the pattern of its bits, for either width.
+ghost use Rattle.std.specs.Prelude.{◌≡◌, ℕ, ◌*◌, Bool, not, T, is_nan, from_bits, to_bits, Float};
+ghost use Rattle.std.specs.Float.{Format as Width};
+ghost use Rattle.std.specs.Float.Ieee.{fits, hid, nan_bits, ones, top};
+ghost use Rattle.value.specs.Patterns.{PatternLaws};
 
-use crate::kind::refusal;
-use fault::{Fault, Reason};
+pub trait Pattern: Copy {
+    // How many bits a pattern has.
+    const BITS: u16;
 
-// The bits of infinity. Above them, the sign left out, lies every pattern that is not a number.
-const INFINITY: u32 = 0x7f80_0000;
+    // The weight of the sign's bit.
+    const SIGN: u64;
 
-// The weight of the sign's bit.
-const SIGN: u32 = 0x8000_0000;
+    // The pattern of infinity. Above it, the sign left out, lies every pattern that is not a number.
+    const INFINITY: u64;
 
-pub(crate) fn bits_of(value: f32) -> Result<u32, Fault>
-    ensures { result ≡ float_code binary32 value }
-{
-    if value.is_nan() {
-        return Err(refusal(Reason::NotANumber));
-    }
-    Ok(value.to_bits())
-}
+    ghost BITS: { ℕ };
 
-#[tactic(auto, using(crate::proofs::Patterns::refuses, crate::proofs::Patterns::is_number, crate::proofs::Patterns::answers))]
-pub(crate) fn float_of(bits: u32) -> Result<f32, Fault>
-    ensures { result ≡ float_of binary32 bits }
-{
-    if bits % SIGN > INFINITY {
-        return Err(refusal(Reason::NotANumber));
-    }
-    Ok(f32::from_bits(bits))
+    ghost SIGN: { ℕ };
+
+    ghost INFINITY: { ℕ };
+
+    ghost width: { Width };
+
+    // A value as a clause sees a float, and back.
+    ghost float: { Self → Float };
+
+    ghost of_float: { Float → Self };
+
+    // Which codes have no more bits than a pattern.
+    ghost room: { ℕ → Bool };
+
+    fn has_room(code: u64) -> bool
+        ensures { result ≡ room code };
+
+    fn is_number(self) -> bool
+        ensures number { result ≡ not (is_nan (float self)) }
+        ensures held { T (fits width (float self)) };
+
+    fn to_code(self) -> u64
+        requires { T (not (is_nan (float self))) }
+        ensures { result ≡ to_bits width (float self) };
+
+    fn of_code(code: u64) -> Self
+        requires room { T (room code) }
+        requires number { T (not (nan_bits width code)) }
+        ensures { result ≡ of_float (from_bits width code) };
+
+    ghost sign_is: { SIGN ≡ top width };
+
+    ghost infinity_is: { INFINITY ≡ ones width * hid width };
+
+    ghost laws: { PatternLaws width float of_float room };
 }

@@ -25,10 +25,7 @@ impl Kind for Whole {
     ghost again = { λ n v small h. sym h };
 
     fn takes(format: Format, depth: u16) -> bool {
-        match format {
-            Format::Integer => 1 <= depth && depth <= 64,
-            Format::Float | Format::Complex => false,
-        }
+        format == Format::Integer && (1..=64).contains(&depth)
     }
 
     fn encode(value: u64) -> Result<u64, Fault> {
