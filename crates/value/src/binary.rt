@@ -39,7 +39,7 @@ impl<F: Pattern> Kind for Binary<F> {
         Ok(value.to_code())
     }
 
-    #[tactic(auto, using(crate::proofs::Numbers::refuses, crate::proofs::Numbers::is_number, crate::proofs::Numbers::answers))]
+    #[tactic(auto, using(crate::proofs::Numbers::above))]
     fn decode(code: u64) -> Result<F, Fault> {
         if !F::has_room(code) {
             return Err(Layer::Frame.refuses(Reason::Code, 0));
