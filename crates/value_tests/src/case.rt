@@ -1,59 +1,59 @@
 // What a value, a code or a component is held to, whatever its kind.
 use choices::Format;
-use fault::{Fault, Layer, Reason};
+use fault::{Layer, Reason};
+use std::fmt::Debug;
+use std::ops::RangeInclusive;
 use std::process::Abort;
 use value::{Kind, check_kind, through_code, through_value};
 
-// The fault of a value: its layer is the frame's, and its place 0.
-pub(crate) fn fault_of(reason: Reason) -> Fault {
-    Fault {
-        reason,
-        layer: Layer::Frame,
-        place: 0,
-    }
-}
-
 // The value has the code, and each comes back from the other.
-pub(crate) fn stands<K: Kind>(rt: &impl Abort, value: K::Value, code: u64) {
-    let back = match through_code::<K>(value) {
-        Ok(back) => back,
-        Err(fault) => panic!(rt; "code {code}: {fault:?}"),
-    };
-    assert_eq!(rt; K::encode(back), Ok(code), "code {code}");
+pub(crate) fn stands<K: Kind>(rt: &impl Abort, value: K::Value, code: u64)
+where
+    K::Value: Copy + Debug + PartialEq,
+{
+    let back = through_code::<K>(value);
+    assert_eq!(rt; back.and_then(|v| K::encode(v)), Ok(code), "code {code}");
     assert_eq!(rt; through_value::<K>(code), Ok(code), "code {code}");
+    assert_eq!(rt; K::decode(code), Ok(value), "code {code}");
 }
 
 // The code has no value.
 pub(crate) fn no_value<K: Kind>(rt: &impl Abort, code: u64, reason: Reason) {
     assert_eq!(rt;
         through_value::<K>(code),
-        Err(fault_of(reason)),
+        Err(Layer::Frame.refuses(reason, 0)),
         "code {code}"
     );
 }
 
 // The value has no code.
 pub(crate) fn no_code<K: Kind>(rt: &impl Abort, value: K::Value, reason: Reason) {
-    assert_eq!(rt; K::encode(value), Err(fault_of(reason)));
+    assert_eq!(rt; K::encode(value), Err(Layer::Frame.refuses(reason, 0)));
 }
 
-// Whether the kind takes the component, and refuses it where it does not.
-fn answers<K: Kind>(rt: &impl Abort, format: Format, depth: u16, taken: bool) {
-    let expected = if taken {
-        Ok(())
-    } else {
-        Err(fault_of(Reason::Kind))
-    };
-    assert_eq!(rt; K::takes(format, depth), taken, "depth {depth}");
-    assert_eq!(rt; check_kind::<K>(format, depth), expected, "depth {depth}");
+// Neither these codes nor these values are numbers.
+pub(crate) fn no_numbers<K: Kind>(rt: &impl Abort, codes: &[u64], values: &[K::Value])
+where
+    K::Value: Copy,
+{
+    for &code in codes {
+        no_value::<K>(rt, code, Reason::NotANumber);
+    }
+    for &value in values {
+        no_code::<K>(rt, value, Reason::NotANumber);
+    }
 }
 
-// Of the depths of one format the kind takes those from the least to the most, and no other component.
-pub(crate) fn takes_only<K: Kind>(rt: &impl Abort, format: Format, least: u16, most: u16) {
+// Of the depths of one format the kind takes these, and it refuses every other component.
+pub(crate) fn takes_only<K: Kind>(rt: &impl Abort, format: Format, depths: RangeInclusive<u16>) {
     for depth in 0..258 {
         for other in [Format::Integer, Format::Float, Format::Complex] {
-            let taken = other == format && least <= depth && depth <= most;
-            answers::<K>(rt, other, depth, taken);
+            let taken = other == format && depths.contains(&depth);
+            let expected = taken
+                .then_some(())
+                .ok_or(Layer::Frame.refuses(Reason::Kind, 0));
+            assert_eq!(rt; K::takes(other, depth), taken, "depth {depth}");
+            assert_eq!(rt; check_kind::<K>(other, depth), expected, "depth {depth}");
         }
     }
 }

@@ -2,8 +2,7 @@
 use crate::case::{no_code, no_value, stands};
 use crate::single::NOT_NUMBERS;
 use fault::Reason;
-use std::test::Fail;
-use value::{Complex, ComplexBinary32, Kind};
+use value::{Complex, ComplexBinary32};
 
 // The real part, the imaginary part, and the code.
 const NUMBERS: [(f32, f32, u64); 7] = [
@@ -17,26 +16,20 @@ const NUMBERS: [(f32, f32, u64); 7] = [
 ];
 
 #[test]
-fn numbers(rt: HostRuntime) -> Result<(), Fail> {
+fn numbers(rt: HostRuntime) {
     for (re, im, code) in NUMBERS {
         stands::<ComplexBinary32>(&rt, Complex { re, im }, code);
-        assert!(rt; ComplexBinary32::decode(code)? == Complex { re, im });
     }
-    Ok(())
 }
 
 // The bits of the number 1.
-const ONE: u32 = 0x3f80_0000;
-
-fn paired(re: u32, im: u32) -> u64 {
-    u64::from(re) * 0x1_0000_0000 + u64::from(im)
-}
+const ONE: u64 = 0x3f80_0000;
 
 // One part, or both, is not a number.
 #[test]
 fn not_numbers(rt: HostRuntime) {
     for bits in NOT_NUMBERS {
-        for code in [paired(bits, ONE), paired(ONE, bits), paired(bits, bits)] {
+        for code in [bits << 32 | ONE, ONE << 32 | bits, bits << 32 | bits] {
             no_value::<ComplexBinary32>(&rt, code, Reason::NotANumber);
         }
     }

@@ -1,8 +1,6 @@
 // Floats of 64 bits. The tables are what tools/float-codes.c prints.
-use crate::case::{no_code, no_value, stands};
-use fault::Reason;
-use std::test::Fail;
-use value::{Binary64, Kind};
+use crate::case::{no_numbers, stands};
+use value::Binary64;
 
 // Zero, smallest and largest subnormal, smallest and largest normal, infinity; then some between.
 const NUMBERS: [(f64, u64); 20] = [
@@ -45,26 +43,20 @@ const NOT_NUMBERS: [u64; 12] = [
 ];
 
 #[test]
-fn numbers(rt: HostRuntime) -> Result<(), Fail> {
+fn numbers(rt: HostRuntime) {
     for (value, code) in NUMBERS {
         stands::<Binary64>(&rt, value, code);
-        assert!(rt; Binary64::decode(code)? == value);
     }
-    Ok(())
 }
 
 #[test]
 fn not_numbers(rt: HostRuntime) {
-    for code in NOT_NUMBERS {
-        no_value::<Binary64>(&rt, code, Reason::NotANumber);
-    }
     let zero: f64 = 0.0;
-    for value in [
+    let values = [
         f64::NAN,
         -f64::NAN,
         zero / zero,
         f64::INFINITY - f64::INFINITY,
-    ] {
-        no_code::<Binary64>(&rt, value, Reason::NotANumber);
-    }
+    ];
+    no_numbers::<Binary64>(&rt, &NOT_NUMBERS, &values);
 }

@@ -26,32 +26,25 @@ impl Kind for Flag {
     ghost again = { law.again };
 
     fn takes(format: Format, depth: u16) -> bool {
-        match format {
-            Format::Integer => depth == 1,
-            Format::Float | Format::Complex => false,
-        }
+        format == Format::Integer && depth == 1
     }
 
     fn encode(value: bool) -> Result<u64, Fault> {
-        if value { Ok(1) } else { Ok(0) }
+        Ok(u64::from(value))
     }
 
     fn decode(code: u64) -> Result<bool, Fault> {
         match code {
             0 => Ok(false),
             1 => Ok(true),
-            _ => Err(Fault {
-                reason: Reason::Code,
-                layer: Layer::Frame,
-                place: 0,
-            }),
+            _ => Err(Layer::Frame.refuses(Reason::Code, 0)),
         }
     }
 }
 
 #[test]
 fn flags(rt: HostRuntime) {
-    takes_only::<Flag>(&rt, Format::Integer, 1, 1);
+    takes_only::<Flag>(&rt, Format::Integer, 1..=1);
     stands::<Flag>(&rt, false, 0);
     stands::<Flag>(&rt, true, 1);
     no_value::<Flag>(&rt, 2, Reason::Code);

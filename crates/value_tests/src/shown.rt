@@ -1,6 +1,5 @@
 // Refusals as text, with their numbers and the layer's letter.
-use crate::case::fault_of;
-use fault::Reason;
+use fault::{Layer, Reason};
 use std::test::Fail;
 
 const TEXTS: [(Reason, &'static str); 3] = [
@@ -21,7 +20,7 @@ const TEXTS: [(Reason, &'static str); 3] = [
 #[test]
 fn as_text(rt: HostRuntime) -> Result<(), Fail> {
     for (reason, expected) in TEXTS {
-        let fault = fault_of(reason);
+        let fault = Layer::Frame.refuses(reason, 0);
         let text = format!(in rt.alloc(); "{fault}")?;
         assert_eq!(rt; text.as_str(), expected);
     }

@@ -1,8 +1,7 @@
 // Floats of 32 bits. The tables are what tools/float-codes.c prints.
-use crate::case::{no_code, no_value, stands};
+use crate::case::{no_numbers, no_value, stands};
 use fault::Reason;
-use std::test::Fail;
-use value::{Binary32, Kind};
+use value::Binary32;
 
 // Zero, smallest and largest subnormal, smallest and largest normal, infinity; then some between.
 const NUMBERS: [(f32, u64); 20] = [
@@ -29,35 +28,28 @@ const NUMBERS: [(f32, u64); 20] = [
 ];
 
 // Right above infinity, signalling, the highest signalling, the lowest quiet, quiet with a payload, the highest.
-pub(crate) const NOT_NUMBERS: [u32; 12] = [
+pub(crate) const NOT_NUMBERS: [u64; 12] = [
     0x7f800001, 0xff800001, 0x7fa00000, 0xffa00000, 0x7fbfffff, 0xffbfffff, 0x7fc00000, 0xffc00000,
     0x7fd1ce55, 0xffd1ce55, 0x7fffffff, 0xffffffff,
 ];
 
 #[test]
-fn numbers(rt: HostRuntime) -> Result<(), Fail> {
+fn numbers(rt: HostRuntime) {
     for (value, code) in NUMBERS {
         stands::<Binary32>(&rt, value, code);
-        assert!(rt; Binary32::decode(code)? == value);
     }
-    Ok(())
 }
 
 #[test]
 fn not_numbers(rt: HostRuntime) {
-    for bits in NOT_NUMBERS {
-        let code = u64::from(bits);
-        no_value::<Binary32>(&rt, code, Reason::NotANumber);
-    }
     let zero: f32 = 0.0;
-    for value in [
+    let values = [
         f32::NAN,
         -f32::NAN,
         zero / zero,
         f32::INFINITY - f32::INFINITY,
-    ] {
-        no_code::<Binary32>(&rt, value, Reason::NotANumber);
-    }
+    ];
+    no_numbers::<Binary32>(&rt, &NOT_NUMBERS, &values);
 }
 
 // A code with more than 32 bits, whatever its lower ones spell.
