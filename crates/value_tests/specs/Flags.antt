@@ -3,13 +3,12 @@ use Rattle.std.specs.Prelude.{ℕ, Bool, true, false, cond, Ok, Result, ◌==◌
 use Rattle.fault.specs.declared.fault.Fault.{Fault}
 use Rattle.fault.specs.declared.reason.Reason.TheVariants.{Code}
 use Rattle.choices.specs.declared.choice.Format.{Format}
-use Rattle.choices.specs.declared.choice.Format.TheVariants.{Integer, Float, Complex}
+use Rattle.choices.specs.declared.choice.Format.TheVariants.{Integer}
 use Rattle.value.specs.Coded.{refused}
+use Rattle.value.specs.Components.{components}
 
 abbrev pub one_bit : Format → ℕ → Bool
-one_bit Integer depth = depth == 1
-one_bit Float depth = false
-one_bit Complex depth = false
+one_bit = components Integer (λ depth. depth == 1)
 
 -- nothing more is to be known of a flag
 abbrev pub always : Bool → Type 0
