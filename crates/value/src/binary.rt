@@ -11,6 +11,7 @@ use choices::Format;
 use fault::{Fault, Layer, Reason};
 use std::marker::PhantomData;
 
+// The kind of the floats F. No value of it is made.
 pub struct Binary<F>(PhantomData<F>);
 
 impl<F: Pattern> Kind for Binary<F> {

@@ -27,7 +27,7 @@ impl Pattern for f64 {
 
     ghost of_float = { λ x. x };
 
-    ghost room = { λ code. true };
+    ghost room = { λ _. true };
 
     ghost sign_is = { refl };
 
@@ -35,7 +35,7 @@ impl Pattern for f64 {
 
     ghost laws = { binary64_laws };
 
-    fn has_room(code: u64) -> bool {
+    fn has_room(_code: u64) -> bool {
         true
     }
 

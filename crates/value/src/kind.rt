@@ -40,7 +40,7 @@ pub trait Kind {
     ghost again: { (n : ℕ) (v : Self.Value) → n < 2 ^ 64 → decodes n ≡ Ok v → encodes v ≡ Ok n };
 }
 
-// Refuses a component that the kind does not take.
+// Refuses a component that the kind does not take. A component or a value stands alone, so the place of its refusal is 0.
 pub fn check_kind<K: Kind>(format: Format, depth: u16) -> Result<(), Fault>
     ensures { result ≡ taken_or (K.Kind.accepts format depth) }
 {

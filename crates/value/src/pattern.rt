@@ -4,7 +4,7 @@ ghost use Rattle.std.specs.Float.{Format as Width};
 ghost use Rattle.std.specs.Float.Ieee.{fits, hid, nan_bits, ones, top};
 ghost use Rattle.value.specs.Patterns.{PatternLaws};
 
-pub trait Pattern: Copy {
+pub(crate) trait Pattern: Copy {
     // How many bits a pattern has.
     const BITS: u16;
 
