@@ -1,5 +1,5 @@
 -- Numbers of a box, the most significant byte first, at an offset from its start; and how readers follow one another.
-use Rattle.std.specs.Prelude.{ℕ, ◌+◌, ◌*◌, Bool, cond, List, length, Some, None, Ok, Err, Option, Result, nat_le, slice_index}
+use Rattle.std.specs.Prelude.{ℕ, ◌+◌, ◌*◌, Bool, cond, List, length, take, drop, Some, None, Ok, Err, Option, Result, nat_le, slice_index}
 use Rattle.fault.specs.Faults.{fault}
 use Rattle.fault.specs.declared.fault.Fault.{Fault}
 use Rattle.fault.specs.declared.layer.Layer.{Layer}
@@ -22,6 +22,10 @@ accepted None f = Err f
 -- the number of the w bytes from `at` on, which must lie in the box
 abbrev pub field : ℕ → (List ℕ → ℕ → ℕ) → Layer → List ℕ → ℕ → Result ℕ Fault
 field w value who xs at = cond (nat_le (at + w) (length xs)) (Ok (value xs at)) (Err (fault Extent who at))
+
+-- the w bytes from `at` on, which must lie in the box
+abbrev pub part_at : ℕ → Layer → List ℕ → ℕ → Result (List ℕ) Fault
+part_at w who xs at = cond (nat_le (at + w) (length xs)) (Ok (take w (drop at xs))) (Err (fault Extent who at))
 
 abbrev pub byte : List ℕ → ℕ → ℕ
 byte xs at = slice_index xs at

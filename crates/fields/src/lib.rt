@@ -2,12 +2,16 @@
 
 #![tactic(auto)]
 
-mod header;
+mod element;
 mod item;
-mod reading;
+mod reader;
+mod table;
+mod whole;
 mod writing;
 
-pub use header::{count_at, end_at, header_of};
+pub use element::Element;
 pub use item::Item;
-pub use reading::{byte_at, half_at, word_at};
+pub use reader::Reader;
+pub use table::Table;
+pub use whole::Whole;
 pub use writing::{put, put_half, put_header, put_word};

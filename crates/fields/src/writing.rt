@@ -11,17 +11,16 @@ pub fn put(out: &mut [u8], at: usize, bytes: &[u8])
     }
 }
 
-pub fn put_half(out: &mut [u8], at: usize, value: u16)
-    ensures { out.new ≡ put_at out.old at (half_bytes value) }
+pub fn put_half(out: &mut [u8], at: usize, half: u16)
+    ensures { out.new ≡ put_at out.old at (half_bytes half) }
 {
-    let [high, low] = value.to_be_bytes();
-    put(out, at, &[high, low]);
+    put(out, at, &half.to_be_bytes());
 }
 
-pub fn put_word(out: &mut [u8], at: usize, value: u32)
-    ensures { out.new ≡ put_at out.old at (word_bytes value) }
+pub fn put_word(out: &mut [u8], at: usize, word: u32)
+    ensures { out.new ≡ put_at out.old at (word_bytes word) }
 {
-    put(out, at, &value.to_be_bytes());
+    put(out, at, &word.to_be_bytes());
 }
 
 // The size of the whole box, of which the field holds the low 32 bits, and the type word.
