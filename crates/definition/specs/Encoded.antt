@@ -6,7 +6,7 @@ use Rattle.definition.specs.Components.{part}
 use Rattle.definition.specs.Definitions.{cmpd, defined}
 use Rattle.fields.specs.Put.{half_bytes, word_bytes, boxed}
 use Rattle.definition.specs.declared.component.Component.{Component}
-use Rattle.definition.specs.declared.definition.Components.{Components}
+use Rattle.fields.specs.declared.table.Table.{Table}
 use Rattle.definition.specs.declared.definition.Definition.{Definition}
 
 -- a component as a reader of the box sees it: the type's number, and the URI's text where there is one
@@ -18,7 +18,7 @@ abbrev pub described : List ℕ → Component → Described
 described text c = record { number = c.number; uri = option_map (part text) c.uri }
 
 -- what a definition defines, its URIs lying in `text`
-abbrev pub defined_by : List ℕ → Components → List Described
+abbrev pub defined_by : List ℕ → Table Component → List Described
 defined_by text cs = map (described text) (defined cs)
 
 abbrev pub defines : Definition → List Described

@@ -4,7 +4,8 @@ use Rattle.std.specs.List.{AllByRecursion}
 use Rattle.fault.specs.declared.fault.Fault.{Fault}
 use Rattle.definition.specs.Definitions.{read_definition}
 use Rattle.definition.specs.Encoded.{Described, defined_by, definition_bytes}
-use Rattle.definition.specs.declared.definition.Components.{Components}
+use Rattle.definition.specs.declared.component.Component.{Component}
+use Rattle.fields.specs.declared.table.Table.{Table}
 
 -- every number fits a byte
 abbrev pub Octets : List ℕ → Type 0
@@ -26,11 +27,11 @@ pub record WellDefined (ds : List Described) : Type 0 where
   pub short : length (definition_bytes ds) < 2 ^ 32
 
 -- r is what reading xs answers: accepted exactly if xs is the writing of something well formed, which is then what was read
-pub record DefinitionExact (xs : List ℕ) (r : Result Components Fault) : Type 0 where
-  pub written : (cs : Components) → r ≡ Ok cs → WellDefined (defined_by xs cs) × (definition_bytes (defined_by xs cs) ≡ xs)
-  pub accepted : (ds : List Described) → WellDefined ds → definition_bytes ds ≡ xs → (cs : Components) × (r ≡ Ok cs) × (defined_by xs cs ≡ ds)
+pub record DefinitionExact (xs : List ℕ) (r : Result (Table Component) Fault) : Type 0 where
+  pub written : (cs : Table Component) → r ≡ Ok cs → WellDefined (defined_by xs cs) × (definition_bytes (defined_by xs cs) ≡ xs)
+  pub accepted : (ds : List Described) → WellDefined ds → definition_bytes ds ≡ xs → (cs : Table Component) × (r ≡ Ok cs) × (defined_by xs cs ≡ ds)
 
 -- what is written: the bytes that were read, and, of anything well formed, a box that is read as the same again
-pub record DefinitionBack (text : List ℕ) (cs : Components) : Type 0 where
+pub record DefinitionBack (text : List ℕ) (cs : Table Component) : Type 0 where
   pub same : Octets text → read_definition text ≡ Ok cs → definition_bytes (defined_by text cs) ≡ text
-  pub again : WellDefined (defined_by text cs) → (r : Components) × (read_definition (definition_bytes (defined_by text cs)) ≡ Ok r) × (defined_by (definition_bytes (defined_by text cs)) r ≡ defined_by text cs)
+  pub again : WellDefined (defined_by text cs) → (r : Table Component) × (read_definition (definition_bytes (defined_by text cs)) ≡ Ok r) × (defined_by (definition_bytes (defined_by text cs)) r ≡ defined_by text cs)

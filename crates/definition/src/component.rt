@@ -1,11 +1,11 @@
 // One component of the definition box: its type, and the URI that says what a type of the user's own means.
-ghost use Rattle.std.specs.Prelude.{◌≡◌, ◌+◌, ◌^◌, ◌<◌, ◌≤◌, length};
-ghost use Rattle.definition.specs.Components.{uri_at, component_at, components_of, part};
+ghost use Rattle.std.specs.Prelude.{◌≡◌, ◌+◌, ◌^◌, ◌<◌, ◌≤◌, length, position, ◌==◌};
+ghost use Rattle.definition.specs.Components.{uri_by, part};
 ghost use Rattle.definition.specs.Encoded.{described, described_bytes};
 ghost use Rattle.fields.specs.Put.{placed};
 
-use fault::{Fault, Layer, Reason};
-use fields::{Item, half_at, put, put_half};
+use fault::{Fault, Reason};
+use fields::{Element, Item, Reader, Whole, put, put_half};
 
 // A part of the box, by its offset and length.
 #[derive(Clone, Copy)]
@@ -22,86 +22,69 @@ pub struct Component {
     pub uri: Option<Span>,
 }
 
-pub(crate) const PLAIN: Component = Component {
-    number: 0,
-    uri: None,
-};
-
 impl Span {
     // That part of a text, as much of it as is there.
     pub(crate) fn of(self, text: &[u8]) -> &[u8]
         ensures value { result.now ≡ part text.now self }
         ensures bound { length result.now < 2 ^ 32 }
     {
-        let start = (self.at as usize).min(text.len());
-        let end = start + (self.len as usize).min(text.len() - start);
-        &text[start..end]
+        let rest = text.get(self.at as usize..).unwrap_or(&[]);
+        rest.get(..self.len as usize).unwrap_or(rest)
     }
 }
 
-// How many bytes stand from `at` on before the first zero byte.
-fn uri_at(bytes: &[u8], at: usize) -> Result<usize, Fault>
-    requires { at ≤ length bytes.now }
-    ensures { result ≡ uri_at bytes.now at }
+// How many bytes of a text stand before its first zero byte.
+fn before_zero(text: &[u8]) -> Option<usize>
+    ensures { result ≡ position (λ byte. byte == 0) text.now }
 {
-    for i in at..bytes.len() {
-        if bytes[i] == 0 {
-            return Ok(i - at);
-        }
-    }
-    Err(Fault {
-        reason: Reason::Extent,
-        layer: Layer::DefinitionBox,
-        place: at as u64,
-    })
+    text.iter().position(|byte| *byte == 0)
 }
 
-fn component_at(bytes: &[u8], at: usize) -> Result<Item<Component>, Fault>
-    requires { length bytes.now < 2 ^ 32 }
-    ensures { result ≡ component_at bytes.now at }
+// How long the URI is that begins at an offset, without the zero byte that ends it.
+fn uri_at(reader: Reader, at: usize) -> Result<usize, Fault>
+    requires { at ≤ length reader.bytes.now }
+    ensures { result ≡ uri_by reader.entry.layer reader.entry.bytes.now at }
 {
-    let number = half_at(bytes, at, Layer::DefinitionBox)?;
-    if number > 16 && number < 0x8000 {
-        return Err(Fault {
-            reason: Reason::Reserved,
-            layer: Layer::DefinitionBox,
-            place: at as u64,
-        });
-    }
-    if number < 0x8000 {
-        return Ok(Item {
-            value: Component { number, uri: None },
-            next: at + 2,
-        });
-    }
-    let len = uri_at(bytes, at + 2)?;
-    let uri = Span {
-        at: (at + 2) as u32,
-        len: len as u32,
+    before_zero(&reader.bytes[at..]).ok_or(reader.refuses(Reason::Extent, at))
+}
+
+impl Element for Component {
+    ghost use Rattle.definition.specs.Components.{plain, component_by};
+
+    ghost BLANK = { plain };
+
+    ghost element_at = { component_by };
+
+    const BLANK: Component = Component {
+        number: 0,
+        uri: None,
     };
-    Ok(Item {
-        value: Component {
-            number,
-            uri: Some(uri),
-        },
-        next: at + 2 + len + 1,
-    })
-}
 
-// The first `count` components, one after another; the rest of the table stays plain.
-pub(crate) fn components_of(bytes: &[u8], count: u8) -> Result<Item<[Component; 16]>, Fault>
-    requires few { count ≤ 16 }
-    requires short { length bytes.now < 2 ^ 32 }
-    ensures { result ≡ components_of count bytes.now }
-{
-    let mut value = [PLAIN; 16];
-    let mut next = 12;
-    for i in 0..count as usize {
-        let item = component_at(bytes, next)?;
-        value[i] = item.value;
-        next = item.next;
+    fn read(whole: Whole, at: usize) -> Result<Item<Component>, Fault> {
+        let reader = whole.reader;
+        let number = reader.half(at)?;
+        if number > 16 && number < 0x8000 {
+            return Err(reader.refuses(Reason::Reserved, at));
+        }
+        if number < 0x8000 {
+            return Ok(Item {
+                value: Component { number, uri: None },
+                next: at + 2,
+            });
+        }
+        let len = uri_at(reader, at + 2)?;
+        let uri = Span {
+            at: (at + 2) as u32,
+            len: len as u32,
+        };
+        Ok(Item {
+            value: Component {
+                number,
+                uri: Some(uri),
+            },
+            next: at + 2 + len + 1,
+        })
     }
-    Ok(Item { value, next })
 }
 
 impl Component {

@@ -8,18 +8,11 @@ ghost use Rattle.definition.specs.Encoded.{described, described_bytes, definitio
 ghost use Rattle.definition.specs.RoundTrip.{DefinitionExact, DefinitionBack};
 ghost use Rattle.fields.specs.Put.{placed, write_answer, written_to};
 
-use crate::component::{Component, components_of};
+use crate::component::Component;
 use fault::{Fault, Layer, Reason};
-use fields::{count_at, end_at, header_of, put_header, put_word};
+use fields::{Reader, Table, Whole, put_header, put_word};
 
 pub(crate) const CMPD: u32 = 0x636d_7064;
-
-// The first `count` are defined, and the others plain.
-#[derive(Clone, Copy)]
-pub(crate) struct Components {
-    pub(crate) count: u8,
-    pub(crate) table: [Component; 16],
-}
 
 // A URI as a part of the box: where it begins, and its bytes without the zero byte that ends it.
 #[derive(Clone, Copy)]
@@ -32,18 +25,20 @@ pub struct Uri<'a> {
 #[derive(Clone, Copy)]
 pub struct Definition<'a> {
     text: &'a [u8],
-    components: Components,
+    components: Table<Component>,
 }
 
-fn read_components(bytes: &[u8]) -> Result<Components, Fault>
+fn read_components(bytes: &[u8]) -> Result<Table<Component>, Fault>
     ensures { result ≡ read_definition bytes.now }
 {
-    header_of(bytes, CMPD, Layer::DefinitionBox)?;
-    let count = count_at(bytes, 8, Layer::DefinitionBox)?;
-    let components = components_of(bytes, count)?;
-    end_at(bytes, components.next, Layer::DefinitionBox)?;
-    let table = components.value;
-    Ok(Components { count, table })
+    let reader = Reader {
+        bytes,
+        layer: Layer::DefinitionBox,
+    };
+    let whole = Whole::new(reader, CMPD)?;
+    let components = whole.list(8)?;
+    reader.end(components.next)?;
+    Ok(components.value)
 }
 
 // Writes the components one after another, from the first one's place on.
@@ -52,8 +47,8 @@ fn put_components(out: &mut [u8], text: &[u8], components: &[Component])
     ensures { out.new ≡ placed out.old 12 (flat_map described_bytes (map (described text.now) components.now)) }
 {
     let mut at = 12;
-    for i in 0..components.len() {
-        at = components[i].put(text, out, at);
+    for component in components {
+        at = component.put(text, out, at);
     }
 }
 
@@ -75,18 +70,16 @@ impl<'a> Definition<'a> {
         ensures value { result.now ≡ defined self.now.components }
         ensures few { length result.now ≤ 16 }
     {
-        let n = usize::from(self.components.count).min(16);
-        &self.components.table[0..n]
+        self.components.as_slice()
     }
 
     // The type of a component, by its position, where it is defined.
     pub fn component_type(&self, index: u16) -> Option<u16>
         ensures { result ≡ component_type self.now.components index }
     {
-        match self.components().get(usize::from(index)) {
-            Some(component) => Some(component.number),
-            None => None,
-        }
+        self.components()
+            .get(usize::from(index))
+            .map(|component| component.number)
     }
 
     // The URI of a component, by its position, where it has one.
@@ -94,26 +87,20 @@ impl<'a> Definition<'a> {
         ensures { option_map seen result ≡ uri_of self.now.text.now self.now.components i }
     {
         let text = self.text;
-        match self.components().get(i) {
-            Some(component) => match component.uri {
-                Some(span) => Some(Uri {
-                    place: u64::from(span.at),
-                    text: span.of(text),
-                }),
-                None => None,
-            },
-            None => None,
-        }
+        let span = self.components().get(i)?.uri?;
+        Some(Uri {
+            place: u64::from(span.at),
+            text: span.of(text),
+        })
     }
 
     // The bytes that the box takes.
     pub fn size(&self) -> usize
         ensures is { result ≡ length (definition_bytes (defines self.now)) }
     {
-        let components = self.components();
         let mut size = 12;
-        for i in 0..components.len() {
-            size += components[i].size(self.text);
+        for component in self.components() {
+            size += component.size(self.text);
         }
         size
     }
@@ -126,11 +113,7 @@ impl<'a> Definition<'a> {
     {
         let size = self.size();
         if out.len() < size {
-            return Err(Fault {
-                reason: Reason::Room,
-                layer: Layer::DefinitionBox,
-                place: 0,
-            });
+            return Err(Layer::DefinitionBox.refuses(Reason::Room, 0));
         }
         let components = self.components();
         put_header(out, size as u64, CMPD);

@@ -7,15 +7,15 @@ use Rattle.definition.proofs.definition.Definition.size.Goals as goal
 pub overflow_add-size : goal.overflow_add-size
 overflow_add-size c = omega arith
 
-pub loop-i-preserved : goal.loop-i-preserved
-loop-i-preserved c =
-    let more = length_firsts_more c.args.self.now.text.now c.components-components.result.now c.loop-i.i (omega arith) in
+pub loop-component-preserved : goal.loop-component-preserved
+loop-component-preserved c =
+    let more = length_firsts_more c.args.self.now.text.now c.components-component-items.result.now c.loop-component.component-index (omega arith) in
     (omega arith, omega arith)
 
 pub returns : goal.returns
 returns c =
     let text = c.args.self.now.text.now in
-    let cs = c.components-components.result.now in
-    let all = ap length (firsts_all text cs c.loop-i.i (omega arith)) in
-    let value = ap (λ z. length (flat_map described_bytes (map (described text) z))) c.components-components.ensures.value in
+    let cs = c.components-component-items.result.now in
+    let all = ap length (firsts_all text cs c.loop-component.component-index (omega arith)) in
+    let value = ap (λ z. length (flat_map described_bytes (map (described text) z))) c.components-component-items.ensures.value in
     record { is = omega arith }

@@ -1,4 +1,4 @@
-use Rattle.std.proofs.Common.{◌≡◌, ℕ, ◌≤◌, List, ◌++◌, map, length, sym, refl, ap, ◌∙◌, arith}
+use Rattle.std.proofs.Common.{◌≡◌, ℕ, ◌≤◌, List, ◌++◌, map, length, Err, sym, refl, ap, ◌∙◌, arith}
 use Rattle.std.proofs.lemmas.List.{length-map}
 use Rattle.std.specs.List.{flat_map}
 use Rattle.fault.specs.declared.layer.Layer.TheVariants.{DefinitionBox}
@@ -35,4 +35,4 @@ returns c =
 pub returns-then-out-size : goal.returns-then-out-size
 returns-then-out-size c =
     let w = no_room DefinitionBox (definition_bytes (defines c.args.self.now)) c.args.out.now (omega arith) in
-    record { answer = w.0; bytes = w.1; back = definition_back c.args.self.now.text.now c.args.self.now.components }
+    record { answer = ap Err c.refuses.ensures ∙ w.0; bytes = w.1; back = definition_back c.args.self.now.text.now c.args.self.now.components }
