@@ -1,10 +1,11 @@
 -- The bytes of a configuration box.
-use Rattle.std.specs.Prelude.{ℕ, List, [], ◌∷◌, ◌++◌, length, take}
+use Rattle.std.specs.Prelude.{ℕ, List, [], ◌∷◌, ◌++◌, length}
 use Rattle.std.specs.List.{flat_map}
 use Rattle.choices.specs.Choices.{format_number, sampling_number, interleave_number}
 use Rattle.configuration.specs.Configurations.{uncc}
 use Rattle.choices.specs.Flags.{flags_byte}
 use Rattle.configuration.specs.Profiles.{profile_word}
+use Rattle.fields.specs.Items.{items}
 use Rattle.fields.specs.Put.{half_bytes, word_bytes, boxed}
 use Rattle.configuration.specs.declared.configuration.Configuration.{Configuration}
 use Rattle.configuration.specs.declared.configuration.Configuration.TheVariants.{Listed, Brief}
@@ -26,7 +27,7 @@ sizes_bytes s =
 
 -- the entries that are listed
 abbrev pub listed : Listing → List Entry
-listed l = take l.count l.table
+listed l = items l.entries
 
 -- a version byte and three flag bytes
 abbrev pub version_bytes : ℕ → List ℕ

@@ -1,7 +1,7 @@
 -- The words that stand for a whole configuration, in a box of version 1.
 use Rattle.std.specs.Prelude.{ℕ, ◌+◌, false, cond, List, [], ◌∷◌, map, length, Some, None, Option, ◌==◌, nat_lt}
 use Rattle.configuration.specs.Entries.{blank}
-use Rattle.fields.specs.Items.{padded}
+use Rattle.fields.specs.Items.{table_of}
 use Rattle.choices.specs.declared.choice.Format.TheVariants.{Integer}
 use Rattle.choices.specs.declared.choice.Interleave.TheVariants.{Pixel}
 use Rattle.choices.specs.declared.choice.Sampling.TheVariants.{Full}
@@ -41,12 +41,11 @@ none =
     }
 
 -- interleaved by pixel, and all else 0
-abbrev pub plain_listing : ℕ → ℕ → List Entry → Listing
-plain_listing profile count entries =
+abbrev pub plain_listing : ℕ → List Entry → Listing
+plain_listing profile entries =
     record {
       profile = profile;
-      count = count;
-      table = padded blank entries;
+      entries = table_of blank entries;
       packing = record { sampling = Full; interleave = Pixel; block = 0; flags = none };
       sizes =
           record {
@@ -60,7 +59,7 @@ plain_listing profile count entries =
 
 -- the list that the word stands for
 abbrev pub profile_listing : Profile → Listing
-profile_listing p = plain_listing (profile_word p) (length (profile_indexes p)) (map octet_of (profile_indexes p))
+profile_listing p = plain_listing (profile_word p) (map octet_of (profile_indexes p))
 
 -- the indexes from 0 on are R, G, B and, but for rgb3, alpha: types 4 to 7
 abbrev pub profile_type : Profile → ℕ → Option ℕ

@@ -29,9 +29,9 @@ pub record WellSized (s : Sizes) : Type 0 where
 
 -- what a configuration box of version 0 can hold
 pub record WellListed (l : Listing) : Type 0 where
-  pub some : 1 ≤ l.count
-  pub few : l.count ≤ 16
-  pub table : l.table ≡ padded blank (listed l)
+  pub some : 1 ≤ l.entries.count
+  pub few : l.entries.count ≤ 16
+  pub table : l.entries.slots ≡ padded blank (listed l)
   pub each : AllByRecursion WellEntered (listed l)
   pub profile : l.profile < 2 ^ 32
   pub block : l.packing.block < 256

@@ -1,16 +1,16 @@
 // The configuration box, `uncC`.
 ghost use Rattle.std.specs.Prelude.{◌≡◌, ◌<◌, ◌≤◌, length, Err};
 ghost use Rattle.fault.specs.declared.layer.Layer.TheVariants.{ConfigurationBox};
-ghost use Rattle.configuration.specs.Configurations.{read_configuration, opening_of, brief_of, listed_of, listing_for};
+ghost use Rattle.configuration.specs.Configurations.{read_configuration, opening_of, brief_of, listed_by, listing_for};
 ghost use Rattle.configuration.specs.Encoded.{configuration_body, configuration_bytes};
 ghost use Rattle.configuration.specs.RoundTrip.{ConfigurationExact, ConfigurationBack};
 ghost use Rattle.fields.specs.Put.{placed, write_answer, written_to};
 
+use crate::form::Form;
 use crate::listing::Listing;
 use crate::profile::Profile;
-use crate::refused::refused;
 use fault::{Fault, Layer, Reason};
-use fields::{header_of, put, put_header, put_word};
+use fields::{Reader, Whole, put, put_header, put_word};
 
 pub(crate) const UNCC: u32 = 0x756e_6343;
 
@@ -25,7 +25,7 @@ pub enum Configuration {
 // What stands before the list: `left` bytes of the box follow it.
 #[derive(Clone, Copy)]
 struct Opening {
-    version: u8,
+    form: Form,
     profile: u32,
     left: usize,
 }
@@ -36,18 +36,18 @@ fn cut_short(bytes: &[u8]) -> Fault
     ensures { opening_of bytes.now ≡ Err result }
 {
     if bytes.len() < 9 {
-        return refused(Reason::Extent, 8);
+        return Layer::ConfigurationBox.refuses(Reason::Extent, 8);
     }
-    if bytes[8] > 1 {
-        return refused(Reason::Version, 8);
+    if Form::try_from(bytes[8]).is_err() {
+        return Layer::ConfigurationBox.refuses(Reason::Version, 8);
     }
     if bytes.len() < 12 {
-        return refused(Reason::Extent, 9);
+        return Layer::ConfigurationBox.refuses(Reason::Extent, 9);
     }
     if u32::from_be_bytes([0, bytes[9], bytes[10], bytes[11]]) != 0 {
-        return refused(Reason::Version, 9);
+        return Layer::ConfigurationBox.refuses(Reason::Version, 9);
     }
-    refused(Reason::Extent, 12)
+    Layer::ConfigurationBox.refuses(Reason::Extent, 12)
 }
 
 // Version, flags and profile, and how much of the box is left after them.
@@ -76,15 +76,15 @@ fn opening_of(bytes: &[u8]) -> Result<Opening, Fault>
     else {
         return Err(cut_short(bytes));
     };
-    if *version > 1 {
-        return Err(refused(Reason::Version, 8));
-    }
+    let Ok(form) = Form::try_from(*version) else {
+        return Err(Layer::ConfigurationBox.refuses(Reason::Version, 8));
+    };
     if u32::from_be_bytes([0, *f0, *f1, *f2]) != 0 {
-        return Err(refused(Reason::Version, 9));
+        return Err(Layer::ConfigurationBox.refuses(Reason::Version, 9));
     }
     let profile = u32::from_be_bytes([*p0, *p1, *p2, *p3]);
     Ok(Opening {
-        version: *version,
+        form,
         profile,
         left: rest.len(),
     })
@@ -94,20 +94,19 @@ fn opening_of(bytes: &[u8]) -> Result<Opening, Fault>
 fn brief(profile: u32, left: usize) -> Result<Configuration, Fault>
     ensures { result ≡ brief_of profile left }
 {
-    let Some(word) = Profile::from_word(profile) else {
-        return Err(refused(Reason::Reserved, 12));
+    let Ok(word) = Profile::try_from(profile) else {
+        return Err(Layer::ConfigurationBox.refuses(Reason::Reserved, 12));
     };
     if left > 0 {
-        return Err(refused(Reason::Extent, 16));
+        return Err(Layer::ConfigurationBox.refuses(Reason::Extent, 16));
     }
     Ok(Configuration::Brief(word))
 }
 
-fn listed(bytes: &[u8], profile: u32) -> Result<Configuration, Fault>
-    ensures { result ≡ listed_of profile bytes.now }
+fn listed(whole: Whole, profile: u32) -> Result<Configuration, Fault>
+    ensures { result ≡ listed_by profile whole.entry.reader.layer whole.entry.reader.bytes.now }
 {
-    let listing = Listing::read(bytes, profile)?;
-    Ok(Configuration::Listed(listing))
+    Listing::read(whole, profile).map(Configuration::Listed)
 }
 
 // Writes what the box holds after its type word.
@@ -118,8 +117,8 @@ fn put_body(out: &mut [u8], configuration: &Configuration)
     match configuration {
         Configuration::Listed(listing) => listing.put(out),
         Configuration::Brief(profile) => {
-            put(out, 8, &[1, 0, 0, 0]);
-            put_word(out, 12, profile.word());
+            put(out, 8, &[u8::from(Form::Short), 0, 0, 0]);
+            put_word(out, 12, u32::from(*profile));
         }
     }
 }
@@ -127,12 +126,15 @@ fn put_body(out: &mut [u8], configuration: &Configuration)
 fn read_configuration(bytes: &[u8]) -> Result<Configuration, Fault>
     ensures { result ≡ read_configuration bytes.now }
 {
-    header_of(bytes, UNCC, Layer::ConfigurationBox)?;
+    let reader = Reader {
+        bytes,
+        layer: Layer::ConfigurationBox,
+    };
+    let whole = Whole::new(reader, UNCC)?;
     let opening = opening_of(bytes)?;
-    if opening.version == 1 {
-        brief(opening.profile, opening.left)
-    } else {
-        listed(bytes, opening.profile)
+    match opening.form {
+        Form::Long => listed(whole, opening.profile),
+        Form::Short => brief(opening.profile, opening.left),
     }
 }
 
@@ -172,7 +174,7 @@ impl Configuration {
     {
         let size = self.size();
         if out.len() < size {
-            return Err(refused(Reason::Room, 0));
+            return Err(Layer::ConfigurationBox.refuses(Reason::Room, 0));
         }
         put_header(out, size as u64, UNCC);
         put_body(out, self);

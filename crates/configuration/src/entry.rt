@@ -1,13 +1,11 @@
 // One entry of the configuration box: which component it lists, and how its values are stored.
 ghost use Rattle.std.specs.Prelude.{◌≡◌, ◌+◌, ◌≤◌, length};
 ghost use Rattle.configuration.specs.Encoded.{entry_bytes};
-ghost use Rattle.configuration.specs.Entries.{entry_at, entries_of};
 ghost use Rattle.fields.specs.Put.{placed};
 
-use crate::refused::refused;
 use choices::Format;
-use fault::{Fault, Layer, Reason};
-use fields::{Item, byte_at, half_at, put};
+use fault::{Fault, Reason};
+use fields::{Element, Item, Whole, put};
 
 #[derive(Clone, Copy)]
 pub struct Entry {
@@ -41,45 +39,36 @@ impl Entry {
     }
 }
 
-pub(crate) const BLANK: Entry = Entry {
-    index: 0,
-    depth_less_one: 0,
-    format: Format::Integer,
-    align: 0,
-};
+impl Element for Entry {
+    ghost use Rattle.configuration.specs.Entries.{blank, entry_by};
 
-fn entry_at(bytes: &[u8], at: usize) -> Result<Item<Entry>, Fault>
-    ensures { result ≡ entry_at bytes.now at }
-{
-    let index = half_at(bytes, at, Layer::ConfigurationBox)?;
-    let depth_less_one = byte_at(bytes, at + 2, Layer::ConfigurationBox)?;
-    let number = byte_at(bytes, at + 3, Layer::ConfigurationBox)?;
-    let Ok(format) = Format::try_from(number) else {
-        return Err(refused(Reason::Reserved, at + 3));
+    ghost BLANK = { blank };
+
+    ghost element_at = { entry_by };
+
+    const BLANK: Entry = Entry {
+        index: 0,
+        depth_less_one: 0,
+        format: Format::Integer,
+        align: 0,
     };
-    let align = byte_at(bytes, at + 4, Layer::ConfigurationBox)?;
-    Ok(Item {
-        value: Entry {
-            index,
-            depth_less_one,
-            format,
-            align,
-        },
-        next: at + 5,
-    })
-}
 
-// The first `count` entries, one after another; the rest of the table stays blank.
-pub(crate) fn entries_of(bytes: &[u8], count: u8) -> Result<Item<[Entry; 16]>, Fault>
-    requires { count ≤ 16 }
-    ensures { result ≡ entries_of count bytes.now }
-{
-    let mut value = [BLANK; 16];
-    let mut next = 20;
-    for i in 0..count as usize {
-        let item = entry_at(bytes, next)?;
-        value[i] = item.value;
-        next = item.next;
+    fn read(whole: Whole, at: usize) -> Result<Item<Entry>, Fault> {
+        let reader = whole.reader;
+        let index = reader.half(at)?;
+        let depth_less_one = reader.byte(at + 2)?;
+        let Ok(format) = Format::try_from(reader.byte(at + 3)?) else {
+            return Err(reader.refuses(Reason::Reserved, at + 3));
+        };
+        let align = reader.byte(at + 4)?;
+        Ok(Item {
+            value: Entry {
+                index,
+                depth_less_one,
+                format,
+                align,
+            },
+            next: at + 5,
+        })
     }
-    Ok(Item { value, next })
 }

@@ -4,11 +4,11 @@
 
 mod configuration;
 mod entry;
+mod form;
 mod listing;
 mod profile;
-mod refused;
 
 pub use configuration::Configuration;
 pub use entry::Entry;
 pub use listing::{Listing, Packing, Sizes};
-pub use profile::Profile;
+pub use profile::{Profile, UnknownWord};

@@ -2,14 +2,14 @@
 ghost use Rattle.std.specs.Prelude.{◌≡◌, ◌+◌, ◌*◌, ◌≤◌, length};
 ghost use Rattle.std.specs.List.{flat_map};
 ghost use Rattle.configuration.specs.Encoded.{listed, entry_bytes, packing_bytes, sizes_bytes, listing_bytes};
-ghost use Rattle.configuration.specs.Listings.{packing_at, sizes_at, listing_of};
+ghost use Rattle.configuration.specs.Listings.{packing_by, sizes_by, listing_by};
 ghost use Rattle.fields.specs.Put.{placed};
 
-use crate::entry::{Entry, entries_of};
-use crate::refused::refused;
+use crate::entry::Entry;
+use crate::form::Form;
 use choices::{Flags, Interleave, Sampling};
-use fault::{Fault, Layer, Reason};
-use fields::{byte_at, count_at, end_at, put, put_word, word_at};
+use fault::{Fault, Reason};
+use fields::{Reader, Table, Whole, put, put_word};
 
 // How values are packed into lines.
 #[derive(Clone, Copy)]
@@ -34,28 +34,23 @@ pub struct Sizes {
 #[derive(Clone, Copy)]
 pub struct Listing {
     pub profile: u32,
-    pub(crate) count: u8,
-    // The first `count` are listed, and the others blank.
-    pub(crate) table: [Entry; 16],
+    pub(crate) entries: Table<Entry>,
     pub packing: Packing,
     pub sizes: Sizes,
 }
 
-fn packing_at(bytes: &[u8], at: usize) -> Result<Packing, Fault>
-    ensures { result ≡ packing_at bytes.now at }
+fn packing_at(reader: Reader, at: usize) -> Result<Packing, Fault>
+    ensures { result ≡ packing_by reader.entry.layer reader.entry.bytes.now at }
 {
-    let number = byte_at(bytes, at, Layer::ConfigurationBox)?;
-    let Ok(sampling) = Sampling::try_from(number) else {
-        return Err(refused(Reason::Reserved, at));
+    let Ok(sampling) = Sampling::try_from(reader.byte(at)?) else {
+        return Err(reader.refuses(Reason::Reserved, at));
     };
-    let number = byte_at(bytes, at + 1, Layer::ConfigurationBox)?;
-    let Ok(interleave) = Interleave::try_from(number) else {
-        return Err(refused(Reason::Reserved, at + 1));
+    let Ok(interleave) = Interleave::try_from(reader.byte(at + 1)?) else {
+        return Err(reader.refuses(Reason::Reserved, at + 1));
     };
-    let block = byte_at(bytes, at + 2, Layer::ConfigurationBox)?;
-    let byte = byte_at(bytes, at + 3, Layer::ConfigurationBox)?;
-    let Ok(flags) = Flags::try_from(byte) else {
-        return Err(refused(Reason::Reserved, at + 3));
+    let block = reader.byte(at + 2)?;
+    let Ok(flags) = Flags::try_from(reader.byte(at + 3)?) else {
+        return Err(reader.refuses(Reason::Reserved, at + 3));
     };
     Ok(Packing {
         sampling,
@@ -65,20 +60,15 @@ fn packing_at(bytes: &[u8], at: usize) -> Result<Packing, Fault>
     })
 }
 
-fn sizes_at(bytes: &[u8], at: usize) -> Result<Sizes, Fault>
-    ensures { result ≡ sizes_at bytes.now at }
+fn sizes_at(reader: Reader, at: usize) -> Result<Sizes, Fault>
+    ensures { result ≡ sizes_by reader.entry.layer reader.entry.bytes.now at }
 {
-    let pixel_size = word_at(bytes, at, Layer::ConfigurationBox)?;
-    let row_align = word_at(bytes, at + 4, Layer::ConfigurationBox)?;
-    let tile_align = word_at(bytes, at + 8, Layer::ConfigurationBox)?;
-    let tile_columns_less_one = word_at(bytes, at + 12, Layer::ConfigurationBox)?;
-    let tile_rows_less_one = word_at(bytes, at + 16, Layer::ConfigurationBox)?;
     Ok(Sizes {
-        pixel_size,
-        row_align,
-        tile_align,
-        tile_columns_less_one,
-        tile_rows_less_one,
+        pixel_size: reader.word(at)?,
+        row_align: reader.word(at + 4)?,
+        tile_align: reader.word(at + 8)?,
+        tile_columns_less_one: reader.word(at + 12)?,
+        tile_rows_less_one: reader.word(at + 16)?,
     })
 }
 
@@ -87,8 +77,8 @@ fn put_entries(out: &mut [u8], entries: &[Entry])
     requires { 20 + 5 * length entries.now ≤ length out.old }
     ensures { out.new ≡ placed out.old 20 (flat_map entry_bytes entries.now) }
 {
-    for i in 0..entries.len() {
-        entries[i].put(out, 20 + 5 * i);
+    for (i, entry) in entries.iter().enumerate() {
+        entry.put(out, 20 + 5 * i);
     }
 }
 
@@ -119,20 +109,17 @@ impl Sizes {
 
 impl Listing {
     // What stands from the count on, to the end of the box.
-    pub(crate) fn read(bytes: &[u8], profile: u32) -> Result<Listing, Fault>
-        ensures { result ≡ listing_of profile bytes.now }
+    pub(crate) fn read(whole: Whole, profile: u32) -> Result<Listing, Fault>
+        ensures { result ≡ listing_by profile whole.entry.reader.layer whole.entry.reader.bytes.now }
     {
-        let count = count_at(bytes, 16, Layer::ConfigurationBox)?;
-        let entries = entries_of(bytes, count)?;
-        let at = entries.next;
-        let packing = packing_at(bytes, at)?;
-        let sizes = sizes_at(bytes, at + 4)?;
-        end_at(bytes, at + 24, Layer::ConfigurationBox)?;
-        let table = entries.value;
+        let reader = whole.reader;
+        let entries = whole.list(16)?;
+        let packing = packing_at(reader, entries.next)?;
+        let sizes = sizes_at(reader, entries.next + 4)?;
+        reader.end(entries.next + 24)?;
         Ok(Listing {
             profile,
-            count,
-            table,
+            entries: entries.value,
             packing,
             sizes,
         })
@@ -143,8 +130,7 @@ impl Listing {
         ensures value { result.now ≡ listed self.now }
         ensures few { length result.now ≤ 16 }
     {
-        let n = usize::from(self.count).min(16);
-        &self.table[0..n]
+        self.entries.as_slice()
     }
 
     // The bytes of the whole box.
@@ -161,7 +147,7 @@ impl Listing {
     {
         let entries = self.entries();
         let n = entries.len();
-        put(out, 8, &[0, 0, 0, 0]);
+        put(out, 8, &[u8::from(Form::Long), 0, 0, 0]);
         put_word(out, 12, self.profile);
         put_word(out, 16, n as u32);
         put_entries(out, entries);

@@ -1,10 +1,11 @@
 // The words that stand for a whole configuration, in a box of version 1.
-ghost use Rattle.std.specs.Prelude.{◌≡◌, [], ◌∷◌};
+ghost use Rattle.std.specs.Prelude.{◌≡◌, ◌≤◌, length, ok_or};
 ghost use Rattle.configuration.specs.Profiles.{profile_of, profile_word, profile_listing, profile_type, octet_of, plain_listing};
 
-use crate::entry::{BLANK, Entry};
+use crate::entry::Entry;
 use crate::listing::{Listing, Packing, Sizes};
 use choices::{Flags, Format, Interleave, Sampling};
+use fields::Table;
 
 #[derive(Clone, Copy, Debug, PartialEq, Eq)]
 pub enum Profile {
@@ -13,37 +14,47 @@ pub enum Profile {
     Abgr,
 }
 
-impl Profile {
-    pub(crate) fn from_word(word: u32) -> Option<Profile>
-        ensures { result ≡ profile_of word }
-    {
+// A word that stands for no profile.
+#[derive(Clone, Copy, Debug, PartialEq, Eq)]
+pub struct UnknownWord(pub u32);
+
+impl TryFrom<u32> for Profile {
+    type Error = UnknownWord;
+
+    ghost try_from_gives = { λ word r. r ≡ ok_or (profile_of word) (record { 0 = word }) };
+
+    fn try_from(word: u32) -> Result<Profile, UnknownWord> {
         match word {
-            0x7267_6233 => Some(Profile::Rgb3),
-            0x7267_6261 => Some(Profile::Rgba),
-            0x6162_6772 => Some(Profile::Abgr),
-            _ => None,
+            0x7267_6233 => Ok(Profile::Rgb3),
+            0x7267_6261 => Ok(Profile::Rgba),
+            0x6162_6772 => Ok(Profile::Abgr),
+            _ => Err(UnknownWord(word)),
         }
     }
+}
 
-    pub(crate) fn word(self) -> u32
-        ensures { result ≡ profile_word self }
-    {
-        match self {
+impl From<Profile> for u32 {
+    ghost from_gives = { λ profile word. word ≡ profile_word profile };
+
+    fn from(profile: Profile) -> u32 {
+        match profile {
             Profile::Rgb3 => 0x7267_6233,
             Profile::Rgba => 0x7267_6261,
             Profile::Abgr => 0x6162_6772,
         }
     }
+}
 
+impl Profile {
     // The list that the word stands for.
     pub(crate) fn listing(self) -> Listing
         ensures { result ≡ profile_listing self }
     {
-        let word = self.word();
+        let word = u32::from(self);
         match self {
-            Profile::Rgb3 => plain(word, 3, octet(0), octet(1), octet(2), BLANK),
-            Profile::Rgba => plain(word, 4, octet(0), octet(1), octet(2), octet(3)),
-            Profile::Abgr => plain(word, 4, octet(3), octet(2), octet(1), octet(0)),
+            Profile::Rgb3 => plain(word, &[octet(0), octet(1), octet(2)]),
+            Profile::Rgba => plain(word, &[octet(0), octet(1), octet(2), octet(3)]),
+            Profile::Abgr => plain(word, &[octet(3), octet(2), octet(1), octet(0)]),
         }
     }
 
@@ -73,29 +84,25 @@ fn octet(index: u16) -> Entry
 }
 
 // Interleaved by pixel, with nothing else said.
-fn plain(profile: u32, count: u8, a: Entry, b: Entry, c: Entry, d: Entry) -> Listing
-    ensures { result ≡ plain_listing profile count (a ∷ b ∷ c ∷ d ∷ []) }
+fn plain(profile: u32, entries: &[Entry]) -> Listing
+    requires { length entries.now ≤ 16 }
+    ensures { result ≡ plain_listing profile entries.now }
 {
-    let packing = Packing {
-        sampling: Sampling::Full,
-        interleave: Interleave::Pixel,
-        block: 0,
-        flags: Flags::NONE,
-    };
-    let sizes = Sizes {
-        pixel_size: 0,
-        row_align: 0,
-        tile_align: 0,
-        tile_columns_less_one: 0,
-        tile_rows_less_one: 0,
-    };
-    let z = BLANK;
-    let table = [a, b, c, d, z, z, z, z, z, z, z, z, z, z, z, z];
     Listing {
         profile,
-        count,
-        table,
-        packing,
-        sizes,
+        entries: Table::of(entries),
+        packing: Packing {
+            sampling: Sampling::Full,
+            interleave: Interleave::Pixel,
+            block: 0,
+            flags: Flags::NONE,
+        },
+        sizes: Sizes {
+            pixel_size: 0,
+            row_align: 0,
+            tile_align: 0,
+            tile_columns_less_one: 0,
+            tile_rows_less_one: 0,
+        },
     }
 }

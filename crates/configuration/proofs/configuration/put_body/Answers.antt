@@ -16,7 +16,7 @@ pub returns-in-Brief : goal.returns-in-Brief
 returns-in-Brief c =
     let o = c.args.out.now in
     let room = ap (λ z. length (configuration_bytes z)) c.in-Brief.is in
-    let w = c.put_word.ensures ∙ ap (λ n. put_at c.put-in-Brief.new.out 12 (word_bytes n)) c.word.ensures in
-    let e8 = put-placed o (version_bytes 1) 8 c.put-in-Brief.ensures (omega arith) in
+    let w = c.put_word.ensures ∙ ap (λ n. put_at c.put-in-Brief.new.out 12 (word_bytes n)) c.from-in-Brief.ensures in
+    let e8 = put-placed o (version_bytes 1) 8 (c.put-in-Brief.ensures ∙ ap (λ n. put_at o 8 (version_bytes n)) c.from.ensures) (omega arith) in
     then-put o (version_bytes 1) (word_bytes (profile_word c.in-Brief.profile)) 8 12 e8 w refl (omega arith)
     ∙ ap (λ z. placed o 8 (configuration_body z)) (sym c.in-Brief.is)

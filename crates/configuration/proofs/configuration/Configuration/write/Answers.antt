@@ -20,4 +20,4 @@ pub returns-then-out-size : goal.returns-then-out-size
 returns-then-out-size c =
     let s = c.args.self.now in
     let w = no_room ConfigurationBox (configuration_bytes s) c.args.out.now (omega arith) in
-    record { answer = ap Err c.refused.ensures ∙ w.0; bytes = w.1; back = configuration_back s }
+    record { answer = ap Err c.refuses.ensures ∙ w.0; bytes = w.1; back = configuration_back s }
