@@ -8,19 +8,20 @@ use Rattle.definition.specs.Definitions.{read_definition, component_type}
 use Rattle.definition.specs.Encoded.{definition_bytes, defines}
 use Rattle.fields.specs.Field.{then}
 use Rattle.configuration.specs.Profiles.{profile_type}
+use Rattle.fields.specs.declared.table.Table.{Table}
 use Rattle.boxes.specs.declared.boxes.Boxes.{Boxes}
 use Rattle.configuration.specs.declared.configuration.Configuration.{Configuration}
 use Rattle.configuration.specs.declared.configuration.Configuration.TheVariants.{Listed, Brief}
-use Rattle.definition.specs.declared.definition.Components.{Components}
+use Rattle.definition.specs.declared.component.Component.{Component}
 use Rattle.definition.specs.declared.definition.Definition.{Definition}
 
 -- what was read of both boxes
 pub record Pair : Type 0 where
-  pub definition : Option Components
+  pub definition : Option (Table Component)
   pub configuration : Configuration
 
 -- a definition box that is absent defines nothing
-abbrev pub maybe_definition : Option (List ℕ) → Result (Option Components) Fault
+abbrev pub maybe_definition : Option (List ℕ) → Result (Option (Table Component)) Fault
 maybe_definition None = Ok None
 maybe_definition (Some xs) = then (read_definition xs) (λ cs. Ok (Some cs))
 
@@ -31,10 +32,10 @@ read_boxes definition configuration =
     then (read_configuration configuration) (λ c.
     Ok (record { definition = cs; configuration = c })))
 
-abbrev pub components_in : Option Definition → Option Components
+abbrev pub components_in : Option Definition → Option (Table Component)
 components_in = option.option_map (λ d. d.components)
 
-abbrev pub definition_read : Result (Option Definition) Fault → Result (Option Components) Fault
+abbrev pub definition_read : Result (Option Definition) Fault → Result (Option (Table Component)) Fault
 definition_read = result.result_map_both components_in (λ f. f)
 
 abbrev pub boxes_read : Result Boxes Fault → Result Pair Fault

@@ -19,13 +19,7 @@ fn maybe_definition<'a>(bytes: Option<&'a [u8]>) -> Result<Option<Definition<'a>
     ensures components { definition_read result ≡ maybe_definition (option_map (λ x. x.now) bytes.entry) }
     ensures text { IfOk result (λ d. texts d ≡ option_map (λ x. x.now) bytes.entry) }
 {
-    match bytes {
-        Some(bytes) => {
-            let definition = Definition::read(bytes)?;
-            Ok(Some(definition))
-        }
-        None => Ok(None),
-    }
+    bytes.map(Definition::read).transpose()
 }
 
 impl<'a> Boxes<'a> {
@@ -58,10 +52,10 @@ impl<'a> Boxes<'a> {
     {
         match &self.configuration {
             Configuration::Brief(profile) => profile.component_type(index),
-            Configuration::Listed(_) => match &self.definition {
-                Some(definition) => definition.component_type(index),
-                None => None,
-            },
+            Configuration::Listed(_) => self
+                .definition
+                .as_ref()
+                .and_then(|definition| definition.component_type(index)),
         }
     }
 }
