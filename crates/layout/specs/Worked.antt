@@ -53,7 +53,7 @@ sizes pixel row columns =
 
 abbrev pub listing : Sampling → Interleave → ℕ → Flags → Sizes → List Entry → Listing
 listing s i block f z es =
-    record { profile = 0; count = length es; table = es; packing = record { sampling = s; interleave = i; block = block; flags = f }; sizes = z }
+    record { profile = 0; entries = record { count = length es; slots = es }; packing = record { sampling = s; interleave = i; block = block; flags = f }; sizes = z }
 
 -- a bit of a place, and the byte and the number in it where it lies
 pub record Bit : Type 0 where
