@@ -3,8 +3,9 @@ ghost use Rattle.std.specs.Prelude.{◌≡◌, ◌+◌, ◌≤◌, length};
 ghost use Rattle.configuration.specs.Encoded.{entry_bytes};
 ghost use Rattle.fields.specs.Put.{placed};
 
+use crate::choice::choice_at;
 use choices::Format;
-use fault::{Fault, Reason};
+use fault::Fault;
 use fields::{Element, Item, Whole, put};
 
 #[derive(Clone, Copy)]
@@ -57,9 +58,7 @@ impl Element for Entry {
         let reader = whole.reader;
         let index = reader.half(at)?;
         let depth_less_one = reader.byte(at + 2)?;
-        let Ok(format) = Format::try_from(reader.byte(at + 3)?) else {
-            return Err(reader.refuses(Reason::Reserved, at + 3));
-        };
+        let format = choice_at(reader, at + 3)?;
         let align = reader.byte(at + 4)?;
         Ok(Item {
             value: Entry {

@@ -2,6 +2,7 @@
 
 #![tactic(auto)]
 
+mod choice;
 mod configuration;
 mod entry;
 mod form;

@@ -5,10 +5,11 @@ ghost use Rattle.configuration.specs.Encoded.{listed, entry_bytes, packing_bytes
 ghost use Rattle.configuration.specs.Listings.{packing_by, sizes_by, listing_by};
 ghost use Rattle.fields.specs.Put.{placed};
 
+use crate::choice::choice_at;
 use crate::entry::Entry;
 use crate::form::Form;
 use choices::{Flags, Interleave, Sampling};
-use fault::{Fault, Reason};
+use fault::Fault;
 use fields::{Reader, Table, Whole, put, put_word};
 
 // How values are packed into lines.
@@ -42,16 +43,10 @@ pub struct Listing {
 fn packing_at(reader: Reader, at: usize) -> Result<Packing, Fault>
     ensures { result ≡ packing_by reader.entry.layer reader.entry.bytes.now at }
 {
-    let Ok(sampling) = Sampling::try_from(reader.byte(at)?) else {
-        return Err(reader.refuses(Reason::Reserved, at));
-    };
-    let Ok(interleave) = Interleave::try_from(reader.byte(at + 1)?) else {
-        return Err(reader.refuses(Reason::Reserved, at + 1));
-    };
+    let sampling = choice_at(reader, at)?;
+    let interleave = choice_at(reader, at + 1)?;
     let block = reader.byte(at + 2)?;
-    let Ok(flags) = Flags::try_from(reader.byte(at + 3)?) else {
-        return Err(reader.refuses(Reason::Reserved, at + 3));
-    };
+    let flags = choice_at(reader, at + 3)?;
     Ok(Packing {
         sampling,
         interleave,
