@@ -1,12 +1,12 @@
 -- One turn of a loop over the entries.
-use Rattle.std.proofs.Common.{◌≡◌, ℕ, ◌+◌, ◌<◌, ◌≤◌, Bool, true, false, ◌&&◌, List, [], ◌∷◌, ◌++◌, length, get_or, take, drop, Ok, Err, Result, sym, ap, ◌∙◌, arith}
+use Rattle.std.proofs.Common.{◌≡◌, ℕ, ◌+◌, ◌<◌, ◌≤◌, Bool, true, false, List, [], ◌∷◌, ◌++◌, length, get_or, take, drop, Ok, Err, Result, sym, ap, ◌∙◌, arith}
 use Rattle.std.proofs.lemmas.List.{at_drop_more, at_drop_all, take_more, length-take-le}
 use Rattle.fault.specs.declared.fault.Fault.{Fault}
 use Rattle.fault.specs.declared.reason.Reason.{Reason}
 use Rattle.fields.specs.Field.{then, check}
 use Rattle.configuration.specs.Entries.{blank}
 use Rattle.configuration.specs.declared.entry.Entry.{Entry}
-use Rattle.rules.specs.Rules.{broken_at, each, each_keeps}
+use Rattle.rules.specs.Rules.{broken_at, each_keeps}
 
 module _ (keeps : List Entry → Entry → Bool) (why : Reason) (es : List Entry) where
   -- the answer, where the first i entries keep the rule
@@ -27,17 +27,3 @@ module _ (keeps : List Entry → Entry → Bool) (why : Reason) (es : List Entry
 
   pub done : (i : ℕ) → length es ≤ i → from i ≡ Ok tt
   done i h = at_drop_all (each_keeps keeps why (take i es)) es i h
-
--- a test of each entry, from the entry i on
-module _ (p : Entry → Bool) (es : List Entry) where
-  abbrev pub rest : ℕ → Bool
-  rest i = each p (drop i es)
-
-  pub holds_on : (i : ℕ) → i < length es → p (get_or es i blank) ≡ true → rest i ≡ rest (i + 1)
-  holds_on i h e = at_drop_more (each p) es i blank h ∙ ap (λ b. b && rest (i + 1)) e
-
-  pub fails : (i : ℕ) → i < length es → p (get_or es i blank) ≡ false → rest i ≡ false
-  fails i h e = at_drop_more (each p) es i blank h ∙ ap (λ b. b && rest (i + 1)) e
-
-  pub holds : (i : ℕ) → length es ≤ i → rest i ≡ true
-  holds i h = at_drop_all (each p) es i h

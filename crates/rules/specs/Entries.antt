@@ -1,5 +1,6 @@
 -- The rules on single entries: indexes, and depths with formats, types and aligns.
-use Rattle.std.specs.Prelude.{ℕ, ◌+◌, ◌*◌, Bool, true, false, not, ◌&&◌, ◌||◌, List, [], ◌∷◌, is_some, Some, None, Option, ◌==◌, nat_le, nat_lt}
+use Rattle.std.specs.Prelude.{ℕ, ◌+◌, ◌*◌, Bool, true, false, not, ◌&&◌, ◌||◌, List, is_some, Some, None, Option, ◌==◌, nat_le, nat_lt}
+use Rattle.std.specs.List.{list_any}
 use Rattle.choices.specs.declared.choice.Format.{Format}
 use Rattle.choices.specs.declared.choice.Format.TheVariants.{Integer, Float, Complex}
 use Rattle.choices.specs.declared.choice.Interleave.{Interleave}
@@ -28,8 +29,7 @@ is_multi_y MultiY = true
 
 -- one of the entries lists the index
 abbrev pub lists : ℕ → List Entry → Bool
-lists index [] = false
-lists index (e ∷ es) = e.index == index || lists index es
+lists index = list_any (λ e. e.index == index)
 
 -- the index is defined, and was not listed before unless it is Y in interleave 5
 abbrev pub indexed : Types → Interleave → List Entry → Entry → Bool

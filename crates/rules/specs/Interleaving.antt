@@ -1,6 +1,7 @@
 -- Which interleaves go with a sampling, and what they list.
 use Rattle.std.specs.Prelude.{ℕ, ◌+◌, Bool, true, false, not, ◌&&◌, ◌||◌, List, length, ◌==◌, slice_index_or}
-use Rattle.choices.specs.Choices.{format_number}
+use Rattle.std.specs.List.{list_all}
+use Rattle.choices.specs.Choices.{format_number, across_of}
 use Rattle.choices.specs.declared.choice.Interleave.{Interleave}
 use Rattle.choices.specs.declared.choice.Interleave.TheVariants.{Component, Pixel, Mixed, Row, TileComponent, MultiY}
 use Rattle.choices.specs.declared.choice.Sampling.{Sampling}
@@ -8,7 +9,6 @@ use Rattle.choices.specs.declared.choice.Sampling.TheVariants.{Full, Yuv422, Yuv
 use Rattle.configuration.specs.Entries.{blank}
 use Rattle.configuration.specs.declared.entry.Entry.{Entry}
 use Rattle.rules.specs.Entries.{Types, is_of}
-use Rattle.rules.specs.Rules.{each}
 
 -- interleaves 0, 1, 3, 4 in sampling 0; 0, 2, 4, 5 in 1; 0, 2, 4 in 2; 0, 4, 5 in 3
 abbrev pub goes_with : Sampling → Interleave → Bool
@@ -44,7 +44,7 @@ same_of types number e f = not (is_of types number e && is_of types number f) ||
 -- exactly one index of a type is listed
 abbrev pub one_index_of : Types → ℕ → List Entry → Bool
 one_index_of types number es =
-    not (each (λ e. not (is_of types number e)) es) && each (λ e. each (same_of types number e) es) es
+    not (list_all (λ e. not (is_of types number e)) es) && list_all (λ e. list_all (same_of types number e) es) es
 
 -- one listed index each of Y, U and V
 abbrev pub yuv : Types → List Entry → Bool
@@ -60,22 +60,15 @@ alike e f =
     || (e.depth_less_one == f.depth_less_one
     && (format_number e.format == format_number f.format && e.align == f.align))
 
--- how many columns a group has in interleave 5
-abbrev pub luma_of : Sampling → ℕ
-luma_of Full = 1
-luma_of Yuv422 = 2
-luma_of Yuv420 = 2
-luma_of Yuv411 = 4
-
 -- interleave 2 lists Y, U and V alone, Y first; interleave 5 U, V and equal Y entries alone
 abbrev pub list_fits : Types → Sampling → Interleave → List Entry → Bool
 list_fits types s Component es = true
 list_fits types s Pixel es = true
-list_fits types s Mixed es = length es == 3 && (each (is_yuv types) es && is_of types 1 (slice_index_or es 0 blank))
+list_fits types s Mixed es = length es == 3 && (list_all (is_yuv types) es && is_of types 1 (slice_index_or es 0 blank))
 list_fits types s Row es = true
 list_fits types s TileComponent es = true
 list_fits types s MultiY es =
-    (length es == 2 + luma_of s) && (each (is_yuv types) es && each (λ e. each (alike e) es) es)
+    (length es == 2 + across_of s) && (list_all (is_yuv types) es && list_all (λ e. list_all (alike e) es) es)
 
 abbrev pub is_full : Sampling → Bool
 is_full Full = true

@@ -1,11 +1,11 @@
 -- Blocks, byte orders, the pixel size and alignments.
-use Rattle.std.specs.Prelude.{ℕ, ◌+◌, ◌*◌, ◌/◌, ◌%◌, Bool, true, false, cond, not, ◌&&◌, ◌||◌, List, [], ◌∷◌, ◌==◌, nat_le}
+use Rattle.std.specs.Prelude.{ℕ, ◌+◌, ◌*◌, ◌/◌, ◌%◌, Bool, true, false, cond, not, ◌&&◌, ◌||◌, List, fold, ◌==◌, nat_le}
+use Rattle.std.specs.List.{list_all}
 use Rattle.choices.specs.declared.choice.Interleave.{Interleave}
 use Rattle.choices.specs.declared.choice.Interleave.TheVariants.{Component, Pixel, Mixed, Row, TileComponent, MultiY}
 use Rattle.choices.specs.declared.flags.Flags.{Flags}
 use Rattle.configuration.specs.declared.entry.Entry.{Entry}
 use Rattle.configuration.specs.declared.listing.Sizes.{Sizes}
-use Rattle.rules.specs.Rules.{each}
 use Rattle.rules.specs.declared.packing.Filling.{Filling}
 
 -- with blocks a value fits a block and has no word of its own
@@ -23,7 +23,7 @@ no_block_flags f = not f.pad_low && (not f.block_little_endian && not f.block_re
 abbrev pub blocks_fit : ℕ → Flags → List Entry → Bool
 blocks_fit block flags es =
     nat_le block 8
-    && (cond (block == 0) (no_block_flags flags) (each (fits_block block) es) && (not flags.components_little_endian || each is_aligned es))
+    && (cond (block == 0) (no_block_flags flags) (list_all (fits_block block) es) && (not flags.components_little_endian || list_all is_aligned es))
 
 abbrev pub is_pixel : Interleave → Bool
 is_pixel Component = false
@@ -38,8 +38,7 @@ abbrev pub next_bit : ℕ → Entry → ℕ
 next_bit p e = cond (e.align == 0) (p + (e.depth_less_one + 1)) (8 * ((p + 7) / 8 + e.align))
 
 abbrev pub bits_after : ℕ → List Entry → ℕ
-bits_after p [] = p
-bits_after p (e ∷ es) = bits_after (next_bit p e) es
+bits_after = fold next_bit
 
 -- with blocks: a value that does not fit in the rest of a block opens the next one
 abbrev pub filled : ℕ → Filling → ℕ → Filling
@@ -48,9 +47,12 @@ filled block f depth =
     (record { closed = f.closed; held = f.held + depth })
     (record { closed = f.closed + 1; held = depth })
 
+-- a block that holds nothing is not counted
+abbrev pub blocks_in : Filling → ℕ
+blocks_in f = cond (f.held == 0) f.closed (f.closed + 1)
+
 abbrev pub blocks_after : ℕ → Filling → List Entry → ℕ
-blocks_after block f [] = cond (f.held == 0) f.closed (f.closed + 1)
-blocks_after block f (e ∷ es) = blocks_after block (filled block f (e.depth_less_one + 1)) es
+blocks_after block f es = blocks_in (fold (λ g e. filled block g (e.depth_less_one + 1)) f es)
 
 abbrev pub unopened : Filling
 unopened = record { closed = 0; held = 0 }

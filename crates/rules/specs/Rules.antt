@@ -1,5 +1,5 @@
 -- How a broken rule is answered.
-use Rattle.std.specs.Prelude.{ℕ, Bool, true, ◌&&◌, List, [], ◌∷◌, ◌++◌, length, Ok, Result}
+use Rattle.std.specs.Prelude.{ℕ, Bool, List, [], ◌∷◌, ◌++◌, length, Ok, Result}
 use Rattle.fault.specs.Faults.{fault}
 use Rattle.fault.specs.declared.fault.Fault.{Fault}
 use Rattle.fault.specs.declared.layer.Layer.TheVariants.{Configuration}
@@ -14,11 +14,6 @@ broken why = fault why Configuration 255
 -- by the entry at a position of the list
 abbrev pub broken_at : Reason → ℕ → Fault
 broken_at why i = fault why Configuration i
-
--- a test holds of each entry
-abbrev pub each : (Entry → Bool) → List Entry → Bool
-each p [] = true
-each p (e ∷ es) = p e && each p es
 
 -- each entry keeps the rule, which may look at those listed earlier; the first that does not is answered
 abbrev pub each_keeps : (List Entry → Entry → Bool) → Reason → List Entry → List Entry → Result (Unit {0}) Fault

@@ -1,66 +1,16 @@
 // The rules on single entries: indexes, and depths with formats, types and aligns.
-ghost use Rattle.std.specs.Prelude.{◌≡◌, ◌+◌, ◌<◌, ◌≤◌, [], length, take, slice_index_or};
+ghost use Rattle.std.specs.Prelude.{◌≡◌, ◌+◌, ◌<◌, ◌≤◌, [], List, Bool};
 ghost use Rattle.boxes.specs.Pairs.{type_of};
-ghost use Rattle.configuration.specs.Entries.{blank};
+ghost use Rattle.configuration.specs.Encoded.{listed};
+ghost use Rattle.configuration.specs.declared.entry.Entry.{Entry};
 ghost use Rattle.fault.specs.declared.reason.Reason.TheVariants.{Index, Depth};
-ghost use Rattle.rules.specs.Entries.{is_of, is_multi_y, lists, indexed, is_integer, depth_fits, align_fits, deep};
+ghost use Rattle.rules.specs.Entries.{lists, indexed, depth_fits, align_fits, deep};
 ghost use Rattle.rules.specs.Rules.{each_keeps};
 
 use crate::refused::refused_at;
-use boxes::{Boxes, Entry, Format, Interleave};
+use crate::typed::Typed;
+use boxes::{Entry, Format, Interleave};
 use fault::{Fault, Reason};
-
-// Whether the entry's component has the type with this number.
-pub(crate) fn is_of(boxes: &Boxes, number: u16, entry: &Entry) -> bool
-    ensures { result ≡ is_of (type_of boxes.now) number entry.now }
-{
-    match boxes.component_type(entry.index) {
-        Some(n) => n == number,
-        None => false,
-    }
-}
-
-fn is_multi_y(interleave: Interleave) -> bool
-    ensures { result ≡ is_multi_y interleave }
-{
-    match interleave {
-        Interleave::MultiY => true,
-        _ => false,
-    }
-}
-
-// Whether one of the entries lists the index.
-fn is_listed(entries: &[Entry], index: u16) -> bool
-    ensures { result ≡ lists index entries.now }
-{
-    for entry in entries {
-        if entry.index == index {
-            return true;
-        }
-    }
-    false
-}
-
-fn is_indexed(boxes: &Boxes, interleave: Interleave, entries: &[Entry], i: usize) -> bool
-    requires { i < length entries.now }
-    ensures { result ≡ indexed (type_of boxes.now) interleave (take i entries.now) (slice_index_or entries.now i blank) }
-{
-    let entry = entries[i];
-    let defined = boxes.component_type(entry.index).is_some();
-    let again = is_listed(&entries[0..i], entry.index);
-    defined && (!again || (is_multi_y(interleave) && is_of(boxes, 1, &entry)))
-}
-
-pub(crate) fn indexes(boxes: &Boxes, interleave: Interleave, entries: &[Entry]) -> Result<(), Fault>
-    ensures { result ≡ each_keeps (indexed (type_of boxes.now) interleave) Index [] entries.now }
-{
-    for i in 0..entries.len() {
-        if !is_indexed(boxes, interleave, entries, i) {
-            return Err(refused_at(Reason::Index, i));
-        }
-    }
-    Ok(())
-}
 
 fn depth_fits(format: Format, depth: u16) -> bool
     ensures { result ≡ depth_fits format depth }
@@ -78,32 +28,67 @@ fn align_fits(align: u8, depth: u16) -> bool
     align == 0 || (align <= 8 && depth < 8 * u16::from(align))
 }
 
-fn is_integer(format: Format) -> bool
-    ensures { result ≡ is_integer format }
+// The first entry that does not keep the rule is to blame. The rule may look at those listed earlier.
+fn each_keeps<K: Fn(&[Entry], &Entry) -> bool>(
+    entries: &[Entry],
+    reason: Reason,
+    keeps: K,
+) -> Result<(), Fault>
+    requires { K.IsAlwaysCallable keeps }
+    ensures { (rule : List Entry → Entry → Bool) → ((earlier : _) (entry : _) (kept : Bool) → K.post keeps earlier entry kept → kept ≡ rule earlier.now entry.now) → result ≡ each_keeps rule reason [] entries.now }
 {
-    match format {
-        Format::Integer => true,
-        _ => false,
-    }
-}
-
-fn is_deep(boxes: &Boxes, entry: &Entry) -> bool
-    ensures { result ≡ deep (type_of boxes.now) [] entry.now }
-{
-    let depth = entry.depth();
-    let palette = is_of(boxes, 10, entry);
-    depth_fits(entry.format, depth)
-        && (!palette || is_integer(entry.format))
-        && align_fits(entry.align, depth)
-}
-
-pub(crate) fn depths(boxes: &Boxes, entries: &[Entry]) -> Result<(), Fault>
-    ensures { result ≡ each_keeps (deep (type_of boxes.now)) Depth [] entries.now }
-{
-    for i in 0..entries.len() {
-        if !is_deep(boxes, &entries[i]) {
-            return Err(refused_at(Reason::Depth, i));
+    for (i, entry) in entries.iter().enumerate() {
+        if !keeps(&entries[..i], entry) {
+            return Err(refused_at(reason, i));
         }
     }
     Ok(())
+}
+
+// Whether one of the entries lists the index.
+fn is_listed(entries: &[Entry], index: u16) -> bool
+    ensures { result ≡ lists index entries.now }
+{
+    entries.iter().any(|e| e.index == index)
+}
+
+impl Typed<'_> {
+    // Only interleave 5 lists an index again, and only that of Y.
+    fn is_indexed(&self, earlier: &[Entry], entry: &Entry) -> bool
+        ensures { result ≡ indexed (type_of self.now.boxes.now) self.now.listing.now.packing.interleave earlier.now entry.now }
+    {
+        let defined = self.boxes.component_type(entry.index).is_some();
+        let again = is_listed(earlier, entry.index);
+        let many = self.listing.packing.interleave == Interleave::MultiY;
+        defined && (!again || (many && self.is_of(1, entry)))
+    }
+
+    pub(crate) fn indexes(&self) -> Result<(), Fault>
+        ensures { result ≡ each_keeps (indexed (type_of self.now.boxes.now) self.now.listing.now.packing.interleave) Index [] (listed self.now.listing.now) }
+    {
+        each_keeps(
+            self.listing.entries(),
+            Reason::Index,
+            |earlier, entry| self.is_indexed(earlier, entry),
+        )
+    }
+
+    fn is_deep(&self, entry: &Entry) -> bool
+        ensures { result ≡ deep (type_of self.now.boxes.now) [] entry.now }
+    {
+        let depth = entry.depth();
+        depth_fits(entry.format, depth)
+            && (!self.is_of(10, entry) || entry.format == Format::Integer)
+            && align_fits(entry.align, depth)
+    }
+
+    pub(crate) fn depths(&self) -> Result<(), Fault>
+        ensures { result ≡ each_keeps (deep (type_of self.now.boxes.now)) Depth [] (listed self.now.listing.now) }
+    {
+        each_keeps(
+            self.listing.entries(),
+            Reason::Depth,
+            |_, entry| self.is_deep(entry),
+        )
+    }
 }

@@ -8,5 +8,6 @@ mod packing;
 mod refused;
 mod rules;
 mod tiles;
+mod typed;
 
 pub use rules::check;

@@ -1,9 +1,10 @@
 // Blocks, byte orders, the pixel size and alignments.
 ghost use Rattle.std.specs.Prelude.{◌≡◌, ◌+◌, ◌*◌, ◌^◌, ◌<◌, ◌≤◌, length};
-ghost use Rattle.rules.specs.Packing.{fits_block, is_aligned, no_block_flags, blocks_fit, is_pixel, next_bit, bits_after, filled, unopened, blocks_after, pixel_bytes, whole_blocks, pixel_fits, sizes_fit};
-ghost use Rattle.rules.specs.Rules.{each};
+ghost use Rattle.std.specs.List.{list_all};
+ghost use Rattle.configuration.specs.Encoded.{listed};
+ghost use Rattle.rules.specs.Packing.{fits_block, is_aligned, no_block_flags, blocks_fit, next_bit, bits_after, filled, unopened, blocks_after, pixel_bytes, whole_blocks, pixel_fits, sizes_fit};
 
-use boxes::{Entry, Flags, Interleave, Sizes};
+use boxes::{Entry, Flags, Interleave, Listing, Packing};
 
 fn fits_block(block: u8, entry: &Entry) -> bool
     ensures { result ≡ fits_block block entry.now }
@@ -12,31 +13,15 @@ fn fits_block(block: u8, entry: &Entry) -> bool
 }
 
 fn all_fit_block(block: u8, entries: &[Entry]) -> bool
-    ensures { result ≡ each (fits_block block) entries.now }
+    ensures { result ≡ list_all (fits_block block) entries.now }
 {
-    for i in 0..entries.len() {
-        if !fits_block(block, &entries[i]) {
-            return false;
-        }
-    }
-    true
-}
-
-fn is_aligned(entry: &Entry) -> bool
-    ensures { result ≡ is_aligned entry.now }
-{
-    entry.align != 0
+    entries.iter().all(|e| fits_block(block, e))
 }
 
 fn all_aligned(entries: &[Entry]) -> bool
-    ensures { result ≡ each is_aligned entries.now }
+    ensures { result ≡ list_all is_aligned entries.now }
 {
-    for i in 0..entries.len() {
-        if !is_aligned(&entries[i]) {
-            return false;
-        }
-    }
-    true
+    entries.iter().all(|e| e.align != 0)
 }
 
 fn no_block_flags(flags: Flags) -> bool
@@ -45,24 +30,17 @@ fn no_block_flags(flags: Flags) -> bool
     !flags.pad_low && !flags.block_little_endian && !flags.block_reversed
 }
 
-pub(crate) fn blocks_fit(block: u8, flags: Flags, entries: &[Entry]) -> bool
-    ensures { result ≡ blocks_fit block flags entries.now }
+pub(crate) fn blocks_fit(listing: &Listing) -> bool
+    ensures { result ≡ blocks_fit listing.now.packing.block listing.now.packing.flags (listed listing.now) }
 {
+    let Packing { block, flags, .. } = listing.packing;
+    let entries = listing.entries();
     let packed = if block == 0 {
         no_block_flags(flags)
     } else {
         all_fit_block(block, entries)
     };
     block <= 8 && packed && (!flags.components_little_endian || all_aligned(entries))
-}
-
-fn is_pixel(interleave: Interleave) -> bool
-    ensures { result ≡ is_pixel interleave }
-{
-    match interleave {
-        Interleave::Pixel => true,
-        _ => false,
-    }
 }
 
 fn next_bit(next: u64, entry: &Entry) -> u64
@@ -78,14 +56,13 @@ fn next_bit(next: u64, entry: &Entry) -> u64
 }
 
 // Without blocks: the next free bit after all entries, of which the first begins at a whole byte.
-fn bits_after(entries: &[Entry]) -> u64
-    requires { length entries.now ≤ 16 }
-    ensures is { result ≡ bits_after 0 entries.now }
+fn bits_after(listing: &Listing) -> u64
+    ensures is { result ≡ bits_after 0 (listed listing.now) }
     ensures bound { result ≤ 2 ^ 16 }
 {
     let mut next = 0;
-    for i in 0..entries.len() {
-        next = next_bit(next, &entries[i]);
+    for entry in listing.entries() {
+        next = next_bit(next, entry);
     }
     next
 }
@@ -120,27 +97,26 @@ fn filled_by(block: u8, filling: Filling, depth: u16) -> Filling
 }
 
 // With blocks: how many blocks all entries use.
-fn blocks_after(block: u8, entries: &[Entry]) -> u64
-    requires { length entries.now ≤ 16 }
-    ensures is { result ≡ blocks_after block unopened entries.now }
+fn blocks_after(listing: &Listing) -> u64
+    ensures is { result ≡ blocks_after listing.now.packing.block unopened (listed listing.now) }
     ensures bound { result ≤ 17 }
 {
     let mut filling = Filling { closed: 0, held: 0 };
-    for i in 0..entries.len() {
-        filling = filled_by(block, filling, entries[i].depth());
+    for entry in listing.entries() {
+        filling = filled_by(listing.packing.block, filling, entry.depth());
     }
     let Filling { closed, held } = filling;
     if held == 0 { closed } else { closed + 1 }
 }
 
-fn pixel_bytes(block: u8, entries: &[Entry]) -> u64
-    requires { length entries.now ≤ 16 }
-    ensures { result ≡ pixel_bytes block entries.now }
+fn pixel_bytes(listing: &Listing) -> u64
+    ensures { result ≡ pixel_bytes listing.now.packing.block (listed listing.now) }
 {
+    let block = listing.packing.block;
     if block == 0 {
-        (bits_after(entries) + 7) / 8
+        (bits_after(listing) + 7) / 8
     } else {
-        blocks_after(block, entries) * u64::from(block)
+        blocks_after(listing) * u64::from(block)
     }
 }
 
@@ -150,19 +126,25 @@ fn whole_blocks(block: u8, pixel: u32) -> bool
     block == 0 || pixel % u32::from(block) == 0
 }
 
-fn pixel_fits(interleave: Interleave, block: u8, pixel: u32, entries: &[Entry]) -> bool
-    requires { length entries.now ≤ 16 }
-    ensures { result ≡ pixel_fits interleave block pixel entries.now }
+fn pixel_fits(listing: &Listing) -> bool
+    ensures { result ≡ pixel_fits listing.now.packing.interleave listing.now.packing.block listing.now.sizes.pixel_size (listed listing.now) }
 {
-    let enough = pixel_bytes(block, entries) <= u64::from(pixel);
-    pixel == 0 || (pixel <= 65535 && is_pixel(interleave) && whole_blocks(block, pixel) && enough)
+    let Packing {
+        interleave,
+        block,
+        ..
+    } = listing.packing;
+    let pixel = listing.sizes.pixel_size;
+    let enough = pixel_bytes(listing) <= u64::from(pixel);
+    pixel == 0
+        || (pixel <= 65535
+            && interleave == Interleave::Pixel
+            && whole_blocks(block, pixel)
+            && enough)
 }
 
-pub(crate) fn sizes_fit(interleave: Interleave, block: u8, sizes: &Sizes, entries: &[Entry]) -> bool
-    requires { length entries.now ≤ 16 }
-    ensures { result ≡ sizes_fit interleave block sizes.now entries.now }
+pub(crate) fn sizes_fit(listing: &Listing) -> bool
+    ensures { result ≡ sizes_fit listing.now.packing.interleave listing.now.packing.block listing.now.sizes (listed listing.now) }
 {
-    pixel_fits(interleave, block, sizes.pixel_size, entries)
-        && sizes.row_align <= 65536
-        && sizes.tile_align <= 1_048_576
+    pixel_fits(listing) && listing.sizes.row_align <= 65536 && listing.sizes.tile_align <= 1_048_576
 }

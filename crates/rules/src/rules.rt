@@ -1,14 +1,14 @@
 // All rules, in the order of their numbers.
-ghost use Rattle.std.specs.Prelude.{◌≡◌, ◌≤◌, length, is_some};
+ghost use Rattle.std.specs.Prelude.{◌≡◌, is_some};
 ghost use Rattle.boxes.specs.Pairs.{type_of};
+ghost use Rattle.configuration.specs.Encoded.{listed};
 ghost use Rattle.rules.specs.Whole.{present_as, list_kept, kept};
 
-use crate::entries::{depths, indexes};
-use crate::interleaving::interleaves;
 use crate::packing::{blocks_fit, sizes_fit};
 use crate::refused::refused;
 use crate::tiles::{side_fits, tiles_fit};
-use boxes::{Boxes, Configuration, Entry, Listing};
+use crate::typed::Typed;
+use boxes::{Boxes, Configuration, Listing};
 use fault::{Fault, Reason};
 
 // Version 0 has a definition box, and version 1 has none.
@@ -21,30 +21,22 @@ fn is_present_as(configuration: &Configuration, present: bool) -> bool
     }
 }
 
-fn check_list(
-    boxes: &Boxes,
-    listing: &Listing,
-    entries: &[Entry],
-    width: u32,
-    height: u32,
-) -> Result<(), Fault>
-    requires { length entries.now ≤ 16 }
-    ensures { result ≡ list_kept (type_of boxes.now) listing.now entries.now width height }
+fn check_list(boxes: &Boxes, listing: &Listing, width: u32, height: u32) -> Result<(), Fault>
+    ensures { result ≡ list_kept (type_of boxes.now) listing.now (listed listing.now) width height }
 {
-    let packing = listing.packing;
-    let interleave = packing.interleave;
-    indexes(boxes, interleave, entries)?;
-    depths(boxes, entries)?;
-    if !interleaves(boxes, packing.sampling, interleave, entries) {
+    let typed = Typed { boxes, listing };
+    typed.indexes()?;
+    typed.depths()?;
+    if !typed.interleaves() {
         return Err(refused(Reason::Interleaving));
     }
-    if !blocks_fit(packing.block, packing.flags, entries) {
+    if !blocks_fit(listing) {
         return Err(refused(Reason::Blocks));
     }
-    if !sizes_fit(interleave, packing.block, &listing.sizes, entries) {
+    if !sizes_fit(listing) {
         return Err(refused(Reason::Alignment));
     }
-    if !tiles_fit(packing.sampling, &listing.sizes, width, height) {
+    if !tiles_fit(listing.packing.sampling, &listing.sizes, width, height) {
         return Err(refused(Reason::Tiles));
     }
     Ok(())
@@ -60,5 +52,5 @@ pub fn check(boxes: &Boxes, width: u32, height: u32) -> Result<(), Fault>
         return Err(refused(Reason::Dimensions));
     }
     let listing = boxes.configuration.listing();
-    check_list(boxes, &listing, listing.entries(), width, height)
+    check_list(boxes, &listing, width, height)
 }

@@ -1,6 +1,6 @@
 // Tiles divide the frame, and chroma divides a tile.
 ghost use Rattle.std.specs.Prelude.{◌≡◌, ◌+◌, ◌<◌};
-ghost use Rattle.rules.specs.Tiles.{side_fits, across_of, down_of, divides, tiles_fit};
+ghost use Rattle.rules.specs.Tiles.{side_fits, divides, tiles_fit};
 
 use boxes::{Sampling, Sizes};
 
@@ -8,28 +8,6 @@ pub(crate) fn side_fits(n: u32) -> bool
     ensures { result ≡ side_fits n }
 {
     1 <= n && n <= 32768
-}
-
-fn across(sampling: Sampling) -> u64
-    ensures is { result ≡ across_of sampling }
-    ensures some { 0 < result }
-{
-    match sampling {
-        Sampling::Full => 1,
-        Sampling::Yuv422 => 2,
-        Sampling::Yuv420 => 2,
-        Sampling::Yuv411 => 4,
-    }
-}
-
-fn down(sampling: Sampling) -> u64
-    ensures is { result ≡ down_of sampling }
-    ensures some { 0 < result }
-{
-    match sampling {
-        Sampling::Yuv420 => 2,
-        _ => 1,
-    }
 }
 
 fn is_divided(n: u32, tiles_less_one: u32, shared: u64) -> bool
@@ -44,6 +22,6 @@ fn is_divided(n: u32, tiles_less_one: u32, shared: u64) -> bool
 pub(crate) fn tiles_fit(sampling: Sampling, sizes: &Sizes, width: u32, height: u32) -> bool
     ensures { result ≡ tiles_fit sampling sizes.now width height }
 {
-    is_divided(width, sizes.tile_columns_less_one, across(sampling))
-        && is_divided(height, sizes.tile_rows_less_one, down(sampling))
+    is_divided(width, sizes.tile_columns_less_one, sampling.across())
+        && is_divided(height, sizes.tile_rows_less_one, sampling.down())
 }

@@ -1,6 +1,8 @@
-use Rattle.std.proofs.Common.{◌≡◌, ◌*◌, ◌≤◌, drop}
-use Rattle.rules.specs.Packing.{bits_after}
+use Rattle.std.proofs.Common.{◌≡◌, ◌*◌, ◌≤◌, take}
+use Rattle.std.specs.List.{fold}
+use Rattle.rules.specs.Packing.{next_bit}
 use Rattle.rules.proofs.packing.bits_after.Given as goal
 
-abbrev pub invariant-loop-i : goal.invariant-loop-i
-invariant-loop-i l = (bits_after l.next (drop l.i l.entries) ≡ bits_after 0 l.entries) × (l.next ≤ 2047 * l.i)
+abbrev pub invariant-loop-entry : goal.invariant-loop-entry
+invariant-loop-entry l =
+    (l.next ≡ fold next_bit 0 (take l.entry-index l.entry-items)) × (l.next ≤ 2047 * l.entry-index)

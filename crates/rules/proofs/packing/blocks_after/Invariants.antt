@@ -1,8 +1,9 @@
-use Rattle.std.proofs.Common.{◌≡◌, ◌^◌, ◌≤◌, drop}
-use Rattle.rules.specs.Packing.{blocks_after, unopened}
+use Rattle.std.proofs.Common.{◌≡◌, ◌+◌, ◌^◌, ◌≤◌, take}
+use Rattle.std.specs.List.{fold}
+use Rattle.rules.specs.Packing.{filled, unopened}
 use Rattle.rules.proofs.packing.blocks_after.Given as goal
 
-abbrev pub invariant-loop-i : goal.invariant-loop-i
-invariant-loop-i l =
-    (blocks_after l.block l.filling (drop l.i l.entries) ≡ blocks_after l.block unopened l.entries)
-    × (l.filling.closed ≤ l.i) × (l.filling.held ≤ 2 ^ 16)
+abbrev pub invariant-loop-entry : goal.invariant-loop-entry
+invariant-loop-entry l =
+    (l.filling ≡ fold (λ g e. filled l.listing.packing.block g (e.depth_less_one + 1)) unopened (take l.entry-index l.entry-items))
+    × (l.filling.closed ≤ l.entry-index) × (l.filling.held ≤ 2 ^ 16)
