@@ -1,9 +1,11 @@
 -- What a list of entries that keeps the rules is known to be.
 use Rattle.std.proofs.Common.{◌≡◌, ℕ, zero, suc, ◌+◌, ◌*◌, ◌<◌, ◌≤◌, Bool, true, false, cond, not, ◌&&◌, ◌||◌, eqb, ltb, leb, ◌≢◌, List, [], ◌∷◌, ◌++◌, length, get_or, take, is_some, Ok, sym, refl, ap, ◌∙◌, inl, inr, arith}
-use Rattle.std.specs.List.{AllByRecursion}
+use Rattle.std.specs.List.{list_all}
 use Rattle.std.proofs.lemmas.List.{append-nil, append_assoc, get_or-take, length-take-le}
-use Rattle.std.proofs.ByRecursion.{All-get_or}
-use Rattle.std.proofs.lemmas.Bool.{and_parts, or_cases, or_left, or_right, eqb-true, eq-eqb, leb-true, ltb-true, not-true, both_ways}
+use Rattle.std.proofs.lemmas.List.Elements.{All-get_or}
+use Rattle.std.proofs.lemmas.List.Folds.{list_any_at}
+use Rattle.std.proofs.lemmas.List.Sums.{AllPass-from_list_all}
+use Rattle.std.proofs.lemmas.Bool.{and_parts, or_cases, eqb-true, eq-eqb, leb-true, ltb-true, not-true, both_ways}
 use Rattle.fault.specs.declared.reason.Reason.{Reason}
 use Rattle.fault.specs.declared.reason.Reason.TheVariants.{Index, Depth, Interleaving, Blocks, Alignment, Tiles}
 use Rattle.fields.specs.Field.{check}
@@ -20,7 +22,7 @@ use Rattle.configuration.specs.declared.listing.Sizes.{Sizes}
 use Rattle.rules.specs.Entries.{Types, is_of, is_multi_y, lists, is_integer, indexed, depth_fits, align_fits, deep}
 use Rattle.rules.specs.Interleaving.{is_interleaved}
 use Rattle.rules.specs.Packing.{fits_block, is_aligned, no_block_flags, blocks_fit, sizes_fit}
-use Rattle.rules.specs.Rules.{each, each_keeps, broken, broken_at}
+use Rattle.rules.specs.Rules.{each_keeps, broken, broken_at}
 use Rattle.rules.specs.Tiles.{tiles_fit}
 use Rattle.rules.specs.Whole.{list_kept}
 
@@ -36,18 +38,8 @@ kept_at keeps why earlier (e ∷ es) h (suc m) l =
     ap (λ before. keeps before (get_or es m blank)) (sym (append_assoc earlier (e ∷ []) (take m es)))
     ∙ kept_at keeps why (earlier ++ e ∷ []) es r m (omega arith))
 
--- an index that an entry lists is listed
-lists_at : (c : ℕ) (es : List Entry) (n : ℕ) → n < length es → (get_or es n blank).index ≡ c → lists c es ≡ true
-lists_at c [] n l e = absurd (omega arith)
-lists_at c (x ∷ es) zero l e = or_left (eqb x.index c) (lists c es) (eq-eqb x.index c e)
-lists_at c (x ∷ es) (suc n) l e = or_right (eqb x.index c) (lists c es) (lists_at c es n (omega arith) e)
-
-pub each_all : (p : Entry → Bool) (es : List Entry) → each p es ≡ true → AllByRecursion (λ e. p e ≡ true) es
-each_all p [] h = tt
-each_all p (e ∷ es) h = let k = and_parts (p e) (each p es) h in (k.0, each_all p es k.1)
-
-pub each_at : (p : Entry → Bool) (es : List Entry) → each p es ≡ true → (n : ℕ) → n < length es → p (get_or es n blank) ≡ true
-each_at p es h n l = All-get_or (λ e. p e ≡ true) es n blank l (each_all p es h)
+pub each_at : (p : Entry → Bool) (es : List Entry) → list_all p es ≡ true → (n : ℕ) → n < length es → p (get_or es n blank) ≡ true
+each_at p es h n l = All-get_or (λ e. p e ≡ true) es n blank l (AllPass-from_list_all p es h)
 
 -- the numbers of an entry
 pub record Held (block : ℕ) (e : Entry) : Type 0 where
@@ -95,11 +87,11 @@ pub record Rules (types : Types) (s : Sampling) (v : Interleave) (block : ℕ) (
   pub sizes : sizes_fit v block z es ≡ true
   pub tiles : tiles_fit s z w h ≡ true
 
-block_held : (block : ℕ) (f : Flags) (es : List Entry) → cond (eqb block 0) (no_block_flags f) (each (fits_block block) es) ≡ true
+block_held : (block : ℕ) (f : Flags) (es : List Entry) → cond (eqb block 0) (no_block_flags f) (list_all (fits_block block) es) ≡ true
     → block ≢ 0 → (n : ℕ) → n < length es → (get_or es n blank).depth_less_one + 1 ≤ 8 * block
 block_held block f es h z n l = go (eqb block 0) refl h
   where
-    go : (t : Bool) → eqb block 0 ≡ t → cond t (no_block_flags f) (each (fits_block block) es) ≡ true → (get_or es n blank).depth_less_one + 1 ≤ 8 * block
+    go : (t : Bool) → eqb block 0 ≡ t → cond t (no_block_flags f) (list_all (fits_block block) es) ≡ true → (get_or es n blank).depth_less_one + 1 ≤ 8 * block
     go true q k = absurd (z (eqb-true block 0 q))
     go false q k =
         let d = get_or es n blank in
@@ -125,15 +117,15 @@ rules_of types l es w h kept =
   where
     BlocksKept : Type 0
     BlocksKept = (leb l.packing.block 8 ≡ true)
-        × (cond (eqb l.packing.block 0) (no_block_flags l.packing.flags) (each (fits_block l.packing.block) es) ≡ true)
+        × (cond (eqb l.packing.block 0) (no_block_flags l.packing.flags) (list_all (fits_block l.packing.block) es) ≡ true)
 
     block-parts : blocks_fit l.packing.block l.packing.flags es ≡ true → BlocksKept
     block-parts k =
         let a = and_parts (leb l.packing.block 8)
-        (cond (eqb l.packing.block 0) (no_block_flags l.packing.flags) (each (fits_block l.packing.block) es)
-        && (not l.packing.flags.components_little_endian || each is_aligned es)) k in
-        let b = and_parts (cond (eqb l.packing.block 0) (no_block_flags l.packing.flags) (each (fits_block l.packing.block) es))
-        (not l.packing.flags.components_little_endian || each is_aligned es) a.1 in
+        (cond (eqb l.packing.block 0) (no_block_flags l.packing.flags) (list_all (fits_block l.packing.block) es)
+        && (not l.packing.flags.components_little_endian || list_all is_aligned es)) k in
+        let b = and_parts (cond (eqb l.packing.block 0) (no_block_flags l.packing.flags) (list_all (fits_block l.packing.block) es))
+        (not l.packing.flags.components_little_endian || list_all is_aligned es) a.1 in
         (a.0, b.0)
 
     first-once : each_keeps (indexed types l.packing.interleave) Index [] es ≡ Ok tt
@@ -144,8 +136,8 @@ rules_of types l es w h kept =
         let k = (and_parts (is_some (types d.index)) (not (lists d.index (take m es)) || (is_multi_y l.packing.interleave && is_of types 1 d))
         (kept_at (indexed types l.packing.interleave) Index [] es a m p)).1 in
         let before : lists d.index (take m es) ≡ true =
-        lists_at d.index (take m es) n (omega (arith, length-take-le m es (omega arith)))
-        (ap (λ (x : Entry). x.index) (get_or-take m es n blank q) ∙ e) in
+        list_any_at (λ x. eqb x.index d.index) (take m es) n blank (omega (arith, length-take-le m es (omega arith)))
+        (eq-eqb _ _ (ap (λ (x : Entry). x.index) (get_or-take m es n blank q) ∙ e)) in
         elim (or_cases (not (lists d.index (take m es))) (is_multi_y l.packing.interleave && is_of types 1 d) k) [
           | inl z ↦ absurd (both_ways (lists d.index (take m es)) (not-true (lists d.index (take m es)) z) before)
           | inr z ↦ and_parts (is_multi_y l.packing.interleave) (is_of types 1 d) z

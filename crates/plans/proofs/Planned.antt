@@ -2,7 +2,7 @@
 use Rattle.std.proofs.Common.{◌≡◌, ℕ, zero, suc, ◌+◌, ◌*◌, ◌/◌, ◌<◌, ◌≤◌, Bool, true, false, cond, not, ◌&&◌, ◌||◌, eqb, leb, ◌≢◌, List, [], ◌∷◌, map, length, get_or, take, drop, sym, refl, ap, ◌∙◌, subst, inl, inr, div-one, arith, length-drop, length-take}
 use mathlib.Core.List.{map-map}
 use lib.ListN.{length-map}
-use Rattle.std.specs.List.{AllByRecursion}
+use Rattle.std.specs.List.{AllByRecursion, list_all}
 use Rattle.std.proofs.lemmas.List.{get_or-take, get_or-drop, get_or-map, take-map, drop-map}
 use Rattle.std.proofs.ByRecursion.{All-from_get_or, All-map, All-take, All-drop}
 use Rattle.std.proofs.lemmas.Bool.{and_parts, or_cases, eqb-true, eq-eqb, leb-true, not-true, both_ways, cases_order}
@@ -19,7 +19,6 @@ use Rattle.rules.specs.Entries.{Types, is_multi_y}
 use Rattle.rules.specs.Interleaving.{goes_with, yuv, is_yuv, list_fits, is_interleaved}
 use Rattle.rules.specs.Interleaving as interleaving
 use Rattle.rules.specs.Packing.{is_pixel, bits_after, blocks_after, pixel_bytes, whole_blocks, pixel_fits}
-use Rattle.rules.specs.Rules.{each}
 use Rattle.placement.specs.Grid.{EvenRows}
 use Rattle.placement.specs.Line.{run_bytes, Holds, CycleFits}
 use Rattle.placement.specs.Line as line
@@ -234,9 +233,9 @@ module _ (types : Types) (s : Sampling) (block : ℕ) (f : Flags) (z : Sizes) (e
       let a = get_or es n blank in
       let b = get_or es m blank in
       let k = (unfull types s MultiY es r.interleaved refl).2 in
-      let k1 = (and_parts (eqb (length es) (2 + across_of s)) (each (is_yuv types) es && each (λ x. each (interleaving.alike x) es) es) k).1 in
-      let k2 = (and_parts (each (is_yuv types) es) (each (λ x. each (interleaving.alike x) es) es) k1).1 in
-      let k3 = each_at (interleaving.alike a) es (each_at (λ x. each (interleaving.alike x) es) es k2 n i) m j in
+      let k1 = (and_parts (eqb (length es) (2 + across_of s)) (list_all (is_yuv types) es && list_all (λ x. list_all (interleaving.alike x) es) es) k).1 in
+      let k2 = (and_parts (list_all (is_yuv types) es) (list_all (λ x. list_all (interleaving.alike x) es) es) k1).1 in
+      let k3 = each_at (interleaving.alike a) es (each_at (λ x. list_all (interleaving.alike x) es) es k2 n i) m j in
       let rest : Bool = eqb (format_number a.format) (format_number b.format) && eqb a.align b.align in
       elim (or_cases (not (eqb a.index b.index)) (eqb a.depth_less_one b.depth_less_one && rest) k3) [
         | inl c ↦ absurd (both_ways (eqb a.index b.index) (not-true (eqb a.index b.index) c) (eq-eqb a.index b.index e))

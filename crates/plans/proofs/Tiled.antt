@@ -2,6 +2,7 @@
 use Rattle.std.proofs.Common.{◌≡◌, ℕ, zero, suc, ◌+◌, ◌*◌, ◌/◌, ◌%◌, ◌<◌, Bool, true, false, cond, not, ◌&&◌, ◌||◌, eqb, ◌≢◌, ◌⊎◌, List, [], ◌∷◌, map, length, get_or, Some, None, Option, sym, refl, ap, ◌∙◌, subst, inl, inr, mul_assoc, mul_comm, zero-add, mul-one, div-one, arith}
 use native.Mathlib.Nat.{div-add-mod, div-eq_of_eq-mul_left, div-eq_of_eq-mul_right}
 use lib.ListN.{length-map}
+use Rattle.std.specs.List.{list_all}
 use Rattle.std.proofs.lemmas.Bool.{and_parts, or_cases, eqb-true, eq-eqb, ne_eqb, not-true, both_ways, cases_order, cases_Bool}
 use Rattle.choices.specs.Choices.{across_of, down_of}
 use Rattle.choices.specs.declared.choice.Interleave.{Interleave}
@@ -15,7 +16,6 @@ use Rattle.configuration.specs.declared.listing.Sizes.{Sizes}
 use Rattle.rules.specs.Entries.{Types, is_number, is_of, is_multi_y}
 use Rattle.rules.specs.Interleaving.{goes_with, same_of, one_index_of, yuv, is_yuv, is_full, list_fits}
 use Rattle.rules.specs.Interleaving as interleaving
-use Rattle.rules.specs.Rules.{each}
 use Rattle.rules.specs.Tiles.{divides, tiles_fit}
 use Rattle.placement.specs.Place.{Slot, Strip, no_slot, no_strip, times, nth, strip_with, strip, PlanFits}
 use Rattle.placement.proofs.Places.{nth_below, nth_is}
@@ -262,14 +262,14 @@ module _ (types : Types) (s : Sampling) (block : ℕ) (f : Flags) (z : Sizes) (e
   many_sides Yuv411 q = (refl, refl)
 
   -- some entry has the type, where not all do not
-  finds : (k : ℕ) (xs : List Listed) → each (λ e. not (is_of types k e)) xs ≡ false
+  finds : (k : ℕ) (xs : List Listed) → list_all (λ e. not (is_of types k e)) xs ≡ false
       → (n : ℕ) × (n < length xs) × (is_of types k (get_or xs n blank) ≡ true)
   finds k [] q = absurd (both_ways true q refl)
   finds k (x ∷ xs) q =
       elim (cases_Bool (is_of types k x)) [
         | inl a ↦ (0, omega arith, a)
         | inr a ↦
-            let o = finds k xs (ap (λ (b : Bool). not b && each (λ e. not (is_of types k e)) xs) (sym a) ∙ q) in
+            let o = finds k xs (ap (λ (b : Bool). not b && list_all (λ e. not (is_of types k e)) xs) (sym a) ∙ q) in
             (suc o.0, omega (arith, o.1), o.2)
       ]
 
@@ -281,14 +281,14 @@ module _ (types : Types) (s : Sampling) (block : ℕ) (f : Flags) (z : Sizes) (e
 
   kind_of : (k : ℕ) → one_index_of types k es ≡ true → Kind k
   kind_of k q =
-      let a = and_parts (not (each (λ e. not (is_of types k e)) es)) (each (λ e. each (same_of types k e) es) es) q in
-      let o = finds k es (not-true (each (λ e. not (is_of types k e)) es) a.0) in
+      let a = and_parts (not (list_all (λ e. not (is_of types k e)) es)) (list_all (λ e. list_all (same_of types k e) es) es) q in
+      let o = finds k es (not-true (list_all (λ e. not (is_of types k e)) es) a.0) in
       record {
         place = o.0;
         below = o.1;
         kind = o.2;
         only = λ n l i.
-            let b = each_at (same_of types k (at n)) es (each_at (λ e. each (same_of types k e) es) es a.1 n l) o.0 o.1 in
+            let b = each_at (same_of types k (at n)) es (each_at (λ e. list_all (same_of types k e) es) es a.1 n l) o.0 o.1 in
             elim (or_cases (not (is_of types k (at n) && is_of types k (at o.0))) (eqb (at n).index (at o.0).index) b) [
               | inl c ↦ absurd (both_ways (is_of types k (at n) && is_of types k (at o.0)) (not-true (is_of types k (at n) && is_of types k (at o.0)) c)
                   (ap (λ (x : Bool). x && is_of types k (at o.0)) i ∙ o.2))
@@ -339,7 +339,7 @@ module _ (types : Types) (s : Sampling) (block : ℕ) (f : Flags) (z : Sizes) (e
         ]
       ])
 
-  luma_often : Rules types s MultiY block z es w h → yuv types es ≡ true → each (is_yuv types) es ≡ true → length es ≡ 2 + across_of s
+  luma_often : Rules types s MultiY block z es w h → yuv types es ≡ true → list_all (is_yuv types) es ≡ true → length es ≡ 2 + across_of s
       → (n : ℕ) → n < length es → is_of types 1 (at n) ≡ true → times (at n).index (map slot_of (map settled es)) ≡ across_of s
   luma_often r q all len n l i =
       let p1 = and_parts (one_index_of types 1 es) (one_index_of types 2 es && one_index_of types 3 es) q in
@@ -374,8 +374,8 @@ module _ (types : Types) (s : Sampling) (block : ℕ) (f : Flags) (z : Sizes) (e
   many_spot r n l =
       let k = unfull types s MultiY es r.interleaved refl in
       let m = many_sides s k.0 in
-      let fits = and_parts (eqb (length es) (2 + across_of s)) (each (is_yuv types) es && each (λ x. each (interleaving.alike x) es) es) k.2 in
-      let all = (and_parts (each (is_yuv types) es) (each (λ x. each (interleaving.alike x) es) es) fits.1).0 in
+      let fits = and_parts (eqb (length es) (2 + across_of s)) (list_all (is_yuv types) es && list_all (λ x. list_all (interleaving.alike x) es) es) k.2 in
+      let all = (and_parts (list_all (is_yuv types) es) (list_all (λ x. list_all (interleaving.alike x) es) es) fits.1).0 in
       let d = sides s z w h r.tiles in
       let rows : (settled (at n)).rows ≡ R * (h / R) =
       full_side (is_chroma (settled (at n)).component_type) h (down_of s) m.1 ∙ whole h R d.1.tiles in
@@ -410,8 +410,8 @@ module _ (types : Types) (s : Sampling) (block : ℕ) (f : Flags) (z : Sizes) (e
   three_of : Rules types s Mixed block z es w h → Three
   three_of r =
       let k = unfull types s Mixed es r.interleaved refl in
-      let fits = and_parts (eqb (length es) 3) (each (is_yuv types) es && is_of types 1 (at 0)) k.2 in
-      let all = and_parts (each (is_yuv types) es) (is_of types 1 (at 0)) fits.1 in
+      let fits = and_parts (eqb (length es) 3) (list_all (is_yuv types) es && is_of types 1 (at 0)) k.2 in
+      let all = and_parts (list_all (is_yuv types) es) (is_of types 1 (at 0)) fits.1 in
       let y = kind_of 1 (and_parts (one_index_of types 1 es) (one_index_of types 2 es && one_index_of types 3 es) k.1).0 in
       record {
         count = eqb-true (length es) 3 fits.0;
