@@ -1,6 +1,7 @@
 -- Lines without blocks: what the code's steps come to.
 use Rattle.std.proofs.Common.{◌≡◌, ℕ, ◌+◌, ◌-◌, ◌*◌, ◌<◌, Bool, ◌≢◌, List, map, length, get_or, take, ap, ◌∙◌, arith}
 use Rattle.std.proofs.lemmas.List.{get_or-map, length-map, take_all}
+use Rattle.std.proofs.lemmas.List.Sums.{fold_more}
 use Rattle.std.proofs.lemmas.Bool.{cond-false, ne_eqb}
 use Rattle.layout.proofs.Entries.{none}
 use Rattle.plans.specs.Cells.{cell_of}
@@ -10,13 +11,13 @@ use Rattle.placement.specs.Pack.{Cell, nowhere, packed_word, after, packed, pack
 use Rattle.placement.specs.Stride.{starts}
 use Rattle.placement.specs.Word.{Word}
 use Rattle.placement.proofs.Stepping.{stepwise}
-use Rattle.placement.proofs.Strided.{ends, end_step, strides}
+use Rattle.placement.proofs.Strided.{ends, strides}
 
 -- one entry more
 pub bits_step : (xs : List Entry) (p at q i : ℕ) → i < length xs → at ≡ packed_end p (take i (map cell_of xs)) → q ≡ after at (cell_of (get_or xs i none))
     → q ≡ packed_end p (take (i + 1) (map cell_of xs))
 bits_step xs p at q i h e g =
-    cc (get_or-map cell_of xs i none (cell_of none) h, end_step (map cell_of xs) p i (cell_of none) (omega (arith, length-map xs cell_of)))
+    cc (get_or-map cell_of xs i none (cell_of none) h, fold_more after p (map cell_of xs) i (cell_of none) (omega (arith, length-map xs cell_of)))
 
 pub all_bits : (xs : List Entry) (p q : ℕ) → q ≡ packed_end p (take (length xs) (map cell_of xs)) → q ≡ packed_end p (map cell_of xs)
 all_bits xs p q e = e ∙ ap (λ (x : List Cell). packed_end p x) (take_all (length xs) (map cell_of xs) (omega (arith, length-map xs cell_of)))

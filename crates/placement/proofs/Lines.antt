@@ -61,7 +61,7 @@ after_le p e = go (eqb e.align 0)
     go true = omega arith
     go false = omega arith
 
-end_le : (p : ℕ) (es : List Cell) → p ≤ packed_end p es
+pub end_le : (p : ℕ) (es : List Cell) → p ≤ packed_end p es
 end_le p [] = omega arith
 end_le p (e ∷ es) = omega (arith, after_le p e, end_le (after p e) es)
 

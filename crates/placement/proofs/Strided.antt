@@ -1,10 +1,12 @@
-use Rattle.std.proofs.Common.{◌≡◌, ℕ, zero, suc, ◌+◌, ◌-◌, ◌*◌, ◌/◌, ◌%◌, ◌<◌, ◌≤◌, Bool, true, false, cond, eqb, List, [], ◌∷◌, ◌++◌, map, length, get_or, take, sym, refl, ap, ◌∙◌, arith}
-use Rattle.std.proofs.lemmas.List.{get_or_append_left, get_or-append-add, take_more}
+use Rattle.std.proofs.Common.{◌≡◌, ℕ, zero, suc, ◌+◌, ◌-◌, ◌*◌, ◌/◌, ◌%◌, ◌<◌, Bool, true, false, cond, eqb, List, [], ◌∷◌, ◌++◌, map, length, get_or, sym, refl, ap, ◌∙◌, arith}
+use Rattle.std.proofs.lemmas.List.{get_or_append_left, get_or-append-add}
+use Rattle.std.proofs.lemmas.List.Sums.{fold-append}
 use Rattle.std.proofs.lemmas.Bool.{cond-false, ne_eqb}
 use Rattle.placement.specs.Word.{Word}
 use Rattle.placement.specs.Pack.{Cell, nowhere, streamed, aligned, packed_word, after, packed, packed_end}
 use Rattle.placement.specs.Line.{repeated, moved}
 use Rattle.placement.proofs.Cycles.{packed-length}
+use Rattle.placement.proofs.Lines.{end_le}
 use Rattle.placement.specs.Stride.{stride, starts, Strides}
 
 -- whole bytes
@@ -59,17 +61,6 @@ shape (e ∷ es) = go (eqb e.align 0) refl (shape es)
         fresh p q = rw z (omega arith)
     go false z (settles f) = settles (λ p q. f (after p e) (after q e))
 
-after_le : (p : ℕ) (e : Cell) → p ≤ after p e
-after_le p e = go (eqb e.align 0)
-  where
-    go : (t : Bool) → p ≤ cond t (p + e.depth) (8 * ((p + 7) / 8 + e.align))
-    go true = omega arith
-    go false = omega arith
-
-pub end_le : (p : ℕ) (es : List Cell) → p ≤ packed_end p es
-end_le p [] = omega arith
-end_le p (e ∷ es) = omega (arith, after_le p e, end_le (after p e) es)
-
 eighths : (j s p : ℕ) → s % 8 ≡ 0 → p + j * s ≡ p + 8 * (j * (s / 8))
 eighths j s p z =
     let e : s ≡ 8 * (s / 8) = omega arith in
@@ -88,10 +79,6 @@ next cycle j = go (shape cycle) (packed_end 0 cycle) (stride cycle) refl refl
         let k : first + j * s ≡ first + 8 * (j * (s / 8)) = eighths j s first z in
         ap (λ (x : ℕ). packed_end x cycle) k ∙ end_moved cycle first (j * (s / 8)) ∙ omega (arith, end_le first cycle)
 
-pub end_append : (xs ys : List Cell) (p : ℕ) → packed_end p (xs ++ ys) ≡ packed_end (packed_end p xs) ys
-end_append [] ys p = refl
-end_append (e ∷ es) ys p = end_append es ys (after p e)
-
 pub packed-append : (little : Bool) (xs ys : List Cell) (p : ℕ) → packed little p (xs ++ ys) ≡ packed little p xs ++ packed little (packed_end p xs) ys
 packed-append little [] ys p = refl
 packed-append little (e ∷ es) ys p = ap (λ (x : List Word). packed_word little p e ∷ x) (packed-append little es ys (after p e))
@@ -102,7 +89,7 @@ later cycle zero j = ap (λ (x : ℕ). packed_end 0 cycle + x * stride cycle) e
     e : j ≡ j + 0
     e = omega arith
 later cycle (suc r) j =
-    end_append cycle (repeated r cycle) (packed_end 0 cycle + j * stride cycle)
+    fold-append after (packed_end 0 cycle + j * stride cycle) cycle (repeated r cycle)
     ∙ ap (λ (x : ℕ). packed_end x (repeated r cycle)) (next cycle j)
     ∙ later cycle r (j + 1)
     ∙ ap (λ (x : ℕ). packed_end 0 cycle + x * stride cycle) e
@@ -113,7 +100,7 @@ later cycle (suc r) j =
 pub ends : (cycle : List Cell) (r : ℕ) → packed_end 0 (repeated r cycle) ≡ starts cycle r
 ends cycle zero = refl
 ends cycle (suc r) =
-    end_append cycle (repeated r cycle) 0
+    fold-append after 0 cycle (repeated r cycle)
     ∙ ap (λ (x : ℕ). packed_end x (repeated r cycle)) e
     ∙ later cycle r 0
     ∙ ap (λ (x : ℕ). packed_end 0 cycle + x * stride cycle) f
@@ -140,7 +127,7 @@ turn little cycle (suc n) (suc r) c p h g =
     ∙ ap (λ (x : ℕ). get_or (packed little p cycle ++ packed little (packed_end p cycle) (repeated n cycle)) x nowhere) e
     ∙ get_or-append-add (packed little p cycle) (packed little (packed_end p cycle) (repeated n cycle)) (r * length cycle + c) nowhere
     ∙ turn little cycle n r c (packed_end p cycle) (omega arith) g
-    ∙ ap (λ (x : ℕ). get_or (packed little x cycle) c nowhere) (sym (end_append cycle (repeated r cycle) p))
+    ∙ ap (λ (x : ℕ). get_or (packed little x cycle) c nowhere) (sym (fold-append after p cycle (repeated r cycle)))
   where
     e : suc r * length cycle + c ≡ length (packed little p cycle) + (r * length cycle + c)
     e = omega (arith, packed-length little p cycle)
@@ -154,8 +141,3 @@ strides =
       word = λ little cycle count r c h g.
           turn little cycle count r c 0 h g ∙ ap (λ (x : ℕ). get_or (packed little x cycle) c nowhere) (ends cycle r);
     }
-
--- what the loops of the code keep
-
-pub end_step : (es : List Cell) (p i : ℕ) (d : Cell) → i < length es → packed_end p (take (i + 1) es) ≡ after (packed_end p (take i es)) (get_or es i d)
-end_step es p i d h = ap (λ (x : List Cell). packed_end p x) (take_more es i d h) ∙ end_append (take i es) (get_or es i d ∷ []) p

@@ -1,5 +1,5 @@
 -- A line: a cycle of entries, repeated, with what rounds it up.
-use Rattle.std.specs.Prelude.{◌≡◌, ℕ, zero, suc, ◌+◌, ◌-◌, ◌*◌, ◌/◌, ◌<◌, ◌≤◌, Bool, cond, ◌≢◌, List, [], ◌++◌, length, get_or, ◌==◌, slice_index_or}
+use Rattle.std.specs.Prelude.{◌≡◌, ℕ, zero, suc, ◌+◌, ◌-◌, ◌*◌, ◌/◌, ◌<◌, ◌≤◌, Bool, cond, ◌≢◌, List, [], ◌++◌, length, slice_index_or, ◌==◌}
 use Rattle.std.specs.List.{AllByRecursion}
 use Rattle.placement.specs.Word.{Word, Whole, spot}
 use Rattle.placement.specs.Pack.{Cell, nowhere, packed, packed_end, Blocks, blocked, blocks_end}
@@ -49,7 +49,7 @@ pub record CycleFits (p : Packing) (cycle : List Cell) : Type 0 where
   pub pixel : p.pixel ≢ 0 → run_bytes p cycle ≤ p.pixel
 
 pub record LineSound (p : Packing) (cycle : List Cell) (count : ℕ) : Type 0 where
-  pub deep : (r c : ℕ) (d : Cell) → r < count → c < length cycle → (line_word p cycle count r c).depth ≡ (get_or cycle c d).depth
+  pub deep : (r c : ℕ) (d : Cell) → r < count → c < length cycle → (line_word p cycle count r c).depth ≡ (slice_index_or cycle c d).depth
   pub whole : (r c : ℕ) → r < count → c < length cycle → Whole (line_word p cycle count r c)
   pub within : (r c i : ℕ) → r < count → c < length cycle → i < (line_word p cycle count r c).depth
       → spot (line_word p cycle count r c) i < 8 * line_bytes p cycle count

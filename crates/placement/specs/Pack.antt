@@ -1,5 +1,5 @@
 -- How the values of a line are packed: a fold along the line gives each value its word.
-use Rattle.std.specs.Prelude.{◌≡◌, ℕ, ◌+◌, ◌-◌, ◌*◌, ◌/◌, ◌<◌, ◌≤◌, Bool, false, cond, ◌≢◌, List, [], ◌∷◌, length, get_or, ◌==◌, nat_le, slice_index_or}
+use Rattle.std.specs.Prelude.{◌≡◌, ℕ, ◌+◌, ◌-◌, ◌*◌, ◌/◌, ◌<◌, ◌≤◌, Bool, false, cond, ◌≢◌, List, [], ◌∷◌, fold, length, slice_index_or, ◌==◌, nat_le}
 use Rattle.std.specs.List.{AllByRecursion}
 use Rattle.placement.specs.Word.{Word, Whole, spot}
 
@@ -33,8 +33,7 @@ packed little p [] = []
 packed little p (e ∷ es) = packed_word little p e ∷ packed little (after p e) es
 
 abbrev pub packed_end : ℕ → List Cell → ℕ
-packed_end p [] = p
-packed_end p (e ∷ es) = packed_end (after p e) es
+packed_end = fold after
 
 -- an entry that a line without blocks can hold
 pub record Packable (e : Cell) : Type 0 where
@@ -85,8 +84,8 @@ pub record Blockable (b : Blocks) (e : Cell) : Type 0 where
 -- the words of a line, in their order, are sound in `size` bytes: no two bits are the same, and each is below the end
 pub record Sound (ws : List Word) (size : ℕ) : Type 0 where
   pub whole : (n : ℕ) → n < length ws → Whole (slice_index_or ws n nowhere)
-  pub within : (n i : ℕ) → n < length ws → i < (get_or ws n nowhere).depth → spot (slice_index_or ws n nowhere) i < 8 * size
-  pub apart : (n m i j : ℕ) → n < length ws → m < length ws → i < (get_or ws n nowhere).depth → j < (get_or ws m nowhere).depth
+  pub within : (n i : ℕ) → n < length ws → i < (slice_index_or ws n nowhere).depth → spot (slice_index_or ws n nowhere) i < 8 * size
+  pub apart : (n m i j : ℕ) → n < length ws → m < length ws → i < (slice_index_or ws n nowhere).depth → j < (slice_index_or ws m nowhere).depth
       → spot (slice_index_or ws n nowhere) i ≡ spot (slice_index_or ws m nowhere) j → (n ≡ m) × (i ≡ j)
 
 abbrev pub PackedStands : Type 0

@@ -1,5 +1,5 @@
 -- The places of a frame, and the word of each.
-use Rattle.std.specs.Prelude.{◌≡◌, ℕ, suc, ◌+◌, ◌-◌, ◌*◌, ◌/◌, ◌%◌, ◌<◌, cond, List, [], ◌∷◌, map, length, get_or, ◌==◌, slice_index_or}
+use Rattle.std.specs.Prelude.{◌≡◌, ℕ, suc, ◌+◌, ◌-◌, ◌*◌, ◌/◌, ◌%◌, ◌<◌, cond, List, [], ◌∷◌, map, length, slice_index_or, ◌==◌}
 use Rattle.placement.specs.declared.place.Place.{Place}
 use Rattle.placement.specs.Word.{Word, Whole, spot}
 use Rattle.placement.specs.Pack.{Cell}
@@ -77,7 +77,7 @@ abbrev pub high : Plan → ℕ → ℕ
 high f c = (strip f (home f c)).rows
 
 abbrev pub depth_of : Plan → ℕ → ℕ
-depth_of f c = (get_or (strip f (home f c)).cycle (nth c 0 (strip f (home f c)).cycle) no_slot).cell.depth
+depth_of f c = (slice_index_or (strip f (home f c)).cycle (nth c 0 (strip f (home f c)).cycle) no_slot).cell.depth
 
 -- of a place: its tile, and in the tile its line, the repetition of the cycle, and the slot in the cycle
 abbrev pub tile_at : Plan → Place → ℕ
@@ -106,8 +106,8 @@ pub record Valid (f : Plan) (p : Place) : Type 0 where
 -- a component has the same depth wherever it stands in a cycle
 abbrev pub Alike : List Slot → Type 0
 Alike cycle =
-    (n m : ℕ) → n < length cycle → m < length cycle → (get_or cycle n no_slot).index ≡ (get_or cycle m no_slot).index
-    → (get_or cycle n no_slot).cell.depth ≡ (get_or cycle m no_slot).cell.depth
+    (n m : ℕ) → n < length cycle → m < length cycle → (slice_index_or cycle n no_slot).index ≡ (slice_index_or cycle m no_slot).index
+    → (slice_index_or cycle n no_slot).cell.depth ≡ (slice_index_or cycle m no_slot).cell.depth
 
 pub record PlanFits (f : Plan) : Type 0 where
   pub cycles : (g : ℕ) → g < length f.strips → CycleFits f.packing (cells f g)

@@ -1,5 +1,5 @@
 -- What an accepted view is known to be.
-use Rattle.std.specs.Prelude.{◌≡◌, ℕ, ◌*◌, ◌<◌, ◌≤◌, length, get_or, slice_index_or}
+use Rattle.std.specs.Prelude.{◌≡◌, ℕ, ◌*◌, ◌<◌, ◌≤◌, length, slice_index_or}
 use Rattle.std.specs.List.{AllByRecursion}
 use Rattle.choices.specs.declared.choice.Interleave.TheVariants.{Mixed}
 use Rattle.placement.specs.Place.{home, wide, high, depth_of, PlanFits}
@@ -28,6 +28,6 @@ pub record Facts (v : View) : Type 0 where
   pub down : (0 < v.tile_rows) × (v.tile_rows ≤ 32768)
   pub three : v.interleave ≡ Mixed → length v.entries ≡ 3
   pub grids : (n : ℕ) → n < length v.entries → Gridded v (slice_index_or v.entries n no_entry)
-  pub columns : (n : ℕ) → n < length v.entries → (get_or v.entries n no_entry).columns ≤ 32768
-  pub rows : (n : ℕ) → n < length v.entries → (get_or v.entries n no_entry).rows ≤ 32768
+  pub columns : (n : ℕ) → n < length v.entries → (slice_index_or v.entries n no_entry).columns ≤ 32768
+  pub rows : (n : ℕ) → n < length v.entries → (slice_index_or v.entries n no_entry).rows ≤ 32768
   pub fits : PlanFits (plan_of v)

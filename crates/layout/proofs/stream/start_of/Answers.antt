@@ -2,7 +2,7 @@ use Rattle.std.proofs.Common.{◌-◌, ◌*◌, ◌≤◌, map, mul-le-mul, arit
 use Rattle.plans.specs.Cells.{cell_of}
 use Rattle.layout.proofs.Strides.{all_bits, start_is}
 use Rattle.layout.proofs.stream.start_of.Goals as goal
-use Rattle.placement.proofs.Strided.{end_le}
+use Rattle.placement.proofs.Lines.{end_le}
 
 pub overflow_sub-result-else-turn-eq0 : goal.overflow_sub-result-else-turn-eq0
 overflow_sub-result-else-turn-eq0 c =
