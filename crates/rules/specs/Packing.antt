@@ -1,12 +1,13 @@
 -- Blocks, byte orders, the pixel size and alignments.
-use Rattle.std.specs.Prelude.{ℕ, ◌+◌, ◌*◌, ◌/◌, ◌%◌, Bool, true, false, cond, not, ◌&&◌, ◌||◌, List, fold, ◌==◌, nat_le}
+use Rattle.std.specs.Prelude.{ℕ, ◌+◌, ◌*◌, ◌%◌, Bool, true, false, cond, not, ◌&&◌, ◌||◌, List, map, ◌==◌, nat_le}
 use Rattle.std.specs.List.{list_all}
 use Rattle.choices.specs.declared.choice.Interleave.{Interleave}
 use Rattle.choices.specs.declared.choice.Interleave.TheVariants.{Component, Pixel, Mixed, Row, TileComponent, MultiY}
 use Rattle.choices.specs.declared.flags.Flags.{Flags}
 use Rattle.configuration.specs.declared.entry.Entry.{Entry}
 use Rattle.configuration.specs.declared.listing.Sizes.{Sizes}
-use Rattle.rules.specs.declared.packing.Filling.{Filling}
+use Rattle.placement.specs.Line.{run_bytes}
+use Rattle.placement.specs.Pack.{Cell, Blocks}
 
 -- with blocks a value fits a block and has no word of its own
 abbrev pub fits_block : ℕ → Entry → Bool
@@ -33,33 +34,18 @@ is_pixel Row = false
 is_pixel TileComponent = false
 is_pixel MultiY = false
 
--- without blocks: the next free bit after an entry, where p is the next free bit before it
-abbrev pub next_bit : ℕ → Entry → ℕ
-next_bit p e = cond (e.align == 0) (p + (e.depth_less_one + 1)) (8 * ((p + 7) / 8 + e.align))
+-- a listed entry as a value of a line
+abbrev pub cell_of : Entry → Cell
+cell_of e = record { depth = e.depth_less_one + 1; align = e.align }
 
-abbrev pub bits_after : ℕ → List Entry → ℕ
-bits_after = fold next_bit
+-- blocks of so many bytes, of which nothing else matters here
+abbrev pub sized : ℕ → Blocks
+sized block = record { bytes = block; little = false; pad_low = false; reversed = false }
 
--- with blocks: a value that does not fit in the rest of a block opens the next one
-abbrev pub filled : ℕ → Filling → ℕ → Filling
-filled block f depth =
-    cond (nat_le (f.held + depth) (8 * block))
-    (record { closed = f.closed; held = f.held + depth })
-    (record { closed = f.closed + 1; held = depth })
-
--- a block that holds nothing is not counted
-abbrev pub blocks_in : Filling → ℕ
-blocks_in f = cond (f.held == 0) f.closed (f.closed + 1)
-
-abbrev pub blocks_after : ℕ → Filling → List Entry → ℕ
-blocks_after block f es = blocks_in (fold (λ g e. filled block g (e.depth_less_one + 1)) f es)
-
-abbrev pub unopened : Filling
-unopened = record { closed = 0; held = 0 }
-
--- the bytes of one pixel, in whole blocks or bytes
+-- the bytes of one pixel, in whole blocks or bytes: those of a run of the entries
 abbrev pub pixel_bytes : ℕ → List Entry → ℕ
-pixel_bytes block es = cond (block == 0) ((bits_after 0 es + 7) / 8) (blocks_after block unopened es * block)
+pixel_bytes block es =
+    run_bytes (record { little = false; blocks = sized block; pixel = 0; row_align = 0; tile_align = 0 }) (map cell_of es)
 
 abbrev pub whole_blocks : ℕ → ℕ → Bool
 whole_blocks block pixel = block == 0 || pixel % block == 0

@@ -1,8 +1,9 @@
 // Blocks, byte orders, the pixel size and alignments.
-ghost use Rattle.std.specs.Prelude.{◌≡◌, ◌+◌, ◌*◌, ◌^◌, ◌<◌, ◌≤◌, length};
+ghost use Rattle.std.specs.Prelude.{◌≡◌, ◌+◌, ◌*◌, ◌^◌, ◌<◌, ◌≤◌, map};
 ghost use Rattle.std.specs.List.{list_all};
 ghost use Rattle.configuration.specs.Encoded.{listed};
-ghost use Rattle.rules.specs.Packing.{fits_block, is_aligned, no_block_flags, blocks_fit, next_bit, bits_after, filled, unopened, blocks_after, pixel_bytes, whole_blocks, pixel_fits, sizes_fit};
+ghost use Rattle.placement.specs.Pack.{after, packed_end, blocks_end};
+ghost use Rattle.rules.specs.Packing.{fits_block, is_aligned, no_block_flags, blocks_fit, cell_of, sized, pixel_bytes, whole_blocks, pixel_fits, sizes_fit};
 
 use boxes::{Entry, Flags, Interleave, Listing, Packing};
 
@@ -43,69 +44,50 @@ pub(crate) fn blocks_fit(listing: &Listing) -> bool
     block <= 8 && packed && (!flags.components_little_endian || all_aligned(entries))
 }
 
-fn next_bit(next: u64, entry: &Entry) -> u64
-    requires { next ≤ 2 ^ 16 }
-    ensures is { result ≡ next_bit next entry.now }
-    ensures bound { result ≤ next + 2047 }
+// The layout's walks along a line are no twins to share: they count in units of bits and bytes, and begin and end anywhere.
+
+// The next free bit after an entry, in a line without blocks.
+fn bit_after(free: u64, entry: &Entry) -> u64
+    requires { free ≤ 2 ^ 16 }
+    ensures is { result ≡ after free (cell_of entry.now) }
+    ensures near { result ≤ free + 2047 }
 {
     if entry.align == 0 {
-        next + (u64::from(entry.depth_less_one) + 1)
+        free + u64::from(entry.depth_less_one) + 1
     } else {
-        8 * ((next + 7) / 8 + u64::from(entry.align))
+        8 * ((free + 7) / 8 + u64::from(entry.align))
     }
 }
 
 // Without blocks: the next free bit after all entries, of which the first begins at a whole byte.
 fn bits_after(listing: &Listing) -> u64
-    ensures is { result ≡ bits_after 0 (listed listing.now) }
-    ensures bound { result ≤ 2 ^ 16 }
+    ensures is { result ≡ packed_end 0 (map cell_of (listed listing.now)) }
+    ensures near { result ≤ 2 ^ 16 }
 {
-    let mut next = 0;
+    let mut free = 0;
     for entry in listing.entries() {
-        next = next_bit(next, entry);
+        free = bit_after(free, entry);
     }
-    next
+    free
 }
 
-// How blocks are used so far: some are closed, and the open one holds some bits.
-#[derive(Clone, Copy)]
-struct Filling {
-    closed: u64,
-    held: u64,
-}
-
-// A value that does not fit in the rest of a block opens the next one.
-fn filled_by(block: u8, filling: Filling, depth: u16) -> Filling
-    requires { (filling.closed ≤ 16) × (filling.held ≤ 2 ^ 16) }
-    ensures is { result ≡ filled block filling depth }
-    ensures closed { result.closed ≤ filling.closed + 1 }
-    ensures held { result.held ≤ 2 ^ 16 }
-{
-    let Filling { closed, held } = filling;
-    let depth = u64::from(depth);
-    if held + depth <= 8 * u64::from(block) {
-        Filling {
-            closed,
-            held: held + depth,
-        }
-    } else {
-        Filling {
-            closed: closed + 1,
-            held: depth,
-        }
-    }
-}
-
-// With blocks: how many blocks all entries use.
+// With blocks: how many of them all entries use. A value that does not fit in the rest of a block opens the next one.
 fn blocks_after(listing: &Listing) -> u64
-    ensures is { result ≡ blocks_after listing.now.packing.block unopened (listed listing.now) }
-    ensures bound { result ≤ 17 }
+    ensures is { result ≡ blocks_end (sized listing.now.packing.block) 0 0 (map cell_of (listed listing.now)) }
+    ensures near { result ≤ 17 }
 {
-    let mut filling = Filling { closed: 0, held: 0 };
+    let room = 8 * u64::from(listing.packing.block);
+    let mut closed = 0;
+    let mut held = 0;
     for entry in listing.entries() {
-        filling = filled_by(listing.packing.block, filling, entry.depth());
+        let depth = u64::from(entry.depth());
+        if held + depth <= room {
+            held += depth;
+        } else {
+            closed += 1;
+            held = depth;
+        }
     }
-    let Filling { closed, held } = filling;
     if held == 0 { closed } else { closed + 1 }
 }
 

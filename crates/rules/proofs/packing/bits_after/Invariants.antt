@@ -1,8 +1,8 @@
-use Rattle.std.proofs.Common.{◌≡◌, ◌*◌, ◌≤◌, take}
-use Rattle.std.specs.List.{fold}
-use Rattle.rules.specs.Packing.{next_bit}
+use Rattle.std.proofs.Common.{◌≡◌, ◌*◌, ◌≤◌, map, take}
+use Rattle.placement.specs.Pack.{packed_end}
+use Rattle.rules.specs.Packing.{cell_of}
 use Rattle.rules.proofs.packing.bits_after.Given as goal
 
 abbrev pub invariant-loop-entry : goal.invariant-loop-entry
 invariant-loop-entry l =
-    (l.next ≡ fold next_bit 0 (take l.entry-index l.entry-items)) × (l.next ≤ 2047 * l.entry-index)
+    (l.free ≡ packed_end 0 (map cell_of (take l.entry-index l.entry-items))) × (l.free ≤ 2047 * l.entry-index)

@@ -1,9 +1,10 @@
-use Rattle.std.proofs.Common.{◌≡◌, ◌+◌, ◌^◌, ◌≤◌, take}
-use Rattle.std.specs.List.{fold}
-use Rattle.rules.specs.Packing.{filled, unopened}
+use Rattle.std.proofs.Common.{◌≡◌, ◌^◌, ◌≤◌, map, drop}
+use Rattle.placement.specs.Pack.{blocks_end}
+use Rattle.rules.specs.Packing.{cell_of, sized}
 use Rattle.rules.proofs.packing.blocks_after.Given as goal
 
 abbrev pub invariant-loop-entry : goal.invariant-loop-entry
 invariant-loop-entry l =
-    (l.filling ≡ fold (λ g e. filled l.listing.packing.block g (e.depth_less_one + 1)) unopened (take l.entry-index l.entry-items))
-    × (l.filling.closed ≤ l.entry-index) × (l.filling.held ≤ 2 ^ 16)
+    let b = sized l.listing.packing.block in
+    (blocks_end b l.closed l.held (map cell_of (drop l.entry-index l.entry-items)) ≡ blocks_end b 0 0 (map cell_of l.entry-items))
+    × (l.closed ≤ l.entry-index) × (l.held ≤ 2 ^ 16)
