@@ -18,11 +18,11 @@ use Rattle.configuration.specs.declared.listing.Sizes.{Sizes}
 use Rattle.rules.specs.Entries.{Types, is_multi_y}
 use Rattle.rules.specs.Interleaving.{goes_with, yuv, is_yuv, list_fits, is_interleaved}
 use Rattle.rules.specs.Interleaving as interleaving
-use Rattle.rules.specs.Packing.{is_pixel, bits_after, blocks_after, pixel_bytes, whole_blocks, pixel_fits}
+use Rattle.rules.specs.Packing.{cell_of as listed_cell, sized, is_pixel, pixel_bytes, whole_blocks, pixel_fits}
 use Rattle.placement.specs.Grid.{EvenRows}
 use Rattle.placement.specs.Line.{run_bytes, Holds, CycleFits}
 use Rattle.placement.specs.Line as line
-use Rattle.placement.specs.Pack.{Cell, after, packed_end, Blocks, block_of, held, blocks_end}
+use Rattle.placement.specs.Pack.{Cell, packed_end, Blocks, block_of, held, blocks_end}
 use Rattle.placement.specs.Place.{Slot, Strip, no_slot, no_strip, grid, strip, cells, Alike, PlanFits}
 use Rattle.plans.specs.Cells.{cell_of, slot_of, packing_of}
 use Rattle.plans.specs.Entries.{is_chroma, rows_of, entry_for, no_entry}
@@ -70,31 +70,12 @@ alike_one x zero zero q p e = refl
 alike_one x zero (suc m) q p e = absurd (omega arith)
 alike_one x (suc n) m q p e = absurd (omega arith)
 
--- a listed entry as a value of a line
-abbrev listed_cell : Listed → Cell
-listed_cell e = record { depth = e.depth_less_one + 1; align = e.align }
-
--- the bits of a pixel end where those of a line of its entries do
-bits_same : (p : ℕ) (es : List Listed) → packed_end p (map listed_cell es) ≡ bits_after p es
-bits_same p [] = refl
-bits_same p (e ∷ es) = bits_same (after p (listed_cell e)) es
-
--- with blocks, and with k of them closed and o bits in the next
-abbrev counted : ℕ → ℕ → ℕ → List Listed → ℕ
-counted block k o es = blocks_after block (record { closed = k; held = o }) es
-
-counted_step : (fits : Bool) (block k o d : ℕ) (es : List Listed)
-    → counted block (cond fits k (k + 1)) (cond fits o 0 + d) es
-    ≡ blocks_after block (cond fits (record { closed = k; held = o + d }) (record { closed = k + 1; held = d })) es
-counted_step true block k o d es = refl
-counted_step false block k o d es = let e : 0 + d ≡ d = omega arith in ap (λ (n : ℕ). counted block (k + 1) n es) e
-
 -- how many blocks there are depends on their bytes alone
-blocks_count : (b : Blocks) (k o : ℕ) (es : List Listed) → blocks_end b k o (map listed_cell es) ≡ counted b.bytes k o es
-blocks_count b k o [] = refl
-blocks_count b k o (e ∷ es) =
-    let d = e.depth_less_one + 1 in
-    blocks_count b (block_of b k o d) (held b o d + d) es ∙ counted_step (leb (o + d) (8 * b.bytes)) b.bytes k o d es
+blocks_same : (a b : Blocks) → a.bytes ≡ b.bytes → (k o : ℕ) (es : List Cell) → blocks_end a k o es ≡ blocks_end b k o es
+blocks_same a b e k o [] = refl
+blocks_same a b e k o (x ∷ xs) =
+    blocks_same a b e (block_of a k o x.depth) (held a o x.depth + x.depth) xs
+    ∙ ap (λ (n : ℕ). blocks_end b (cond (leb (o + x.depth) (8 * n)) k (k + 1)) (cond (leb (o + x.depth) (8 * n)) o 0 + x.depth) xs) e
 
 module _ (types : Types) (s : Sampling) (block : ℕ) (f : Flags) (z : Sizes) (es : List Listed) (w h : ℕ) where
   abbrev pub entry : Listed → Entry
@@ -169,8 +150,7 @@ module _ (types : Types) (s : Sampling) (block : ℕ) (f : Flags) (z : Sizes) (e
   pixel_same =
       let cs = map listed_cell es in
       ap (run_bytes packing) (map-map (λ t. t.cell) slot_of (map entry es) ∙ map-map cell_of entry es)
-      ∙ ap (λ (n : ℕ). cond (eqb block 0) ((n + 7) / 8) (blocks_end packing.blocks 0 0 cs * block)) (bits_same 0 es)
-      ∙ ap (λ (n : ℕ). cond (eqb block 0) ((bits_after 0 es + 7) / 8) (n * block)) (blocks_count packing.blocks 0 0 es)
+      ∙ ap (λ (n : ℕ). cond (eqb block 0) ((packed_end 0 cs + 7) / 8) (n * block)) (blocks_same packing.blocks (sized block) refl 0 0 cs)
 
   pixel_fits_lem : (v : Interleave) → Rules types s v block z es w h → z.pixel_size ≢ 0 → pixel_bytes block es ≤ z.pixel_size
   pixel_fits_lem v r n =
