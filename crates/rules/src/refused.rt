@@ -1,5 +1,6 @@
-// A refusal by one of the rules.
+// What is answered where a rule is broken.
 ghost use Rattle.std.specs.Prelude.{◌≡◌};
+ghost use Rattle.fields.specs.Field.{check};
 ghost use Rattle.rules.specs.Rules.{broken, broken_at};
 
 use fault::{Fault, Layer, Reason};
@@ -7,10 +8,15 @@ use fault::{Fault, Layer, Reason};
 // The place of a fault for which no entry is to blame.
 const WHOLE: u64 = 255;
 
-pub(crate) fn refused(reason: Reason) -> Fault
-    ensures { result ≡ broken reason }
+// A rule on the configuration as a whole.
+pub(crate) fn require(kept: bool, reason: Reason) -> Result<(), Fault>
+    ensures { result ≡ check kept (broken reason) }
 {
-    Layer::Configuration.refuses(reason, WHOLE)
+    if kept {
+        Ok(())
+    } else {
+        Err(Layer::Configuration.refuses(reason, WHOLE))
+    }
 }
 
 // The rule is broken by the entry at this position of the list.

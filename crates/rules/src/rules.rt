@@ -5,10 +5,10 @@ ghost use Rattle.configuration.specs.Encoded.{listed};
 ghost use Rattle.rules.specs.Whole.{present_as, list_kept, kept};
 
 use crate::packing::{blocks_fit, sizes_fit};
-use crate::refused::refused;
+use crate::refused::require;
 use crate::tiles::{side_fits, tiles_fit};
 use crate::typed::Typed;
-use boxes::{Boxes, Configuration, Listing};
+use boxes::{Boxes, Configuration};
 use fault::{Fault, Reason};
 
 // Version 0 has a definition box, and version 1 has none.
@@ -21,36 +21,31 @@ fn is_present_as(configuration: &Configuration, present: bool) -> bool
     }
 }
 
-fn check_list(boxes: &Boxes, listing: &Listing, width: u32, height: u32) -> Result<(), Fault>
-    ensures { result ≡ list_kept (type_of boxes.now) listing.now (listed listing.now) width height }
+fn check_list(typed: &Typed, width: u32, height: u32) -> Result<(), Fault>
+    ensures { result ≡ list_kept (type_of typed.now.boxes.now) typed.now.listing.now (listed typed.now.listing.now) width height }
 {
-    let typed = Typed { boxes, listing };
+    let listing = typed.listing;
     typed.indexes()?;
     typed.depths()?;
-    if !typed.interleaves() {
-        return Err(refused(Reason::Interleaving));
-    }
-    if !blocks_fit(listing) {
-        return Err(refused(Reason::Blocks));
-    }
-    if !sizes_fit(listing) {
-        return Err(refused(Reason::Alignment));
-    }
-    if !tiles_fit(listing.packing.sampling, &listing.sizes, width, height) {
-        return Err(refused(Reason::Tiles));
-    }
-    Ok(())
+    require(typed.interleaves(), Reason::Interleaving)?;
+    require(blocks_fit(listing), Reason::Blocks)?;
+    require(sizes_fit(listing), Reason::Alignment)?;
+    require(tiles_fit(listing, width, height), Reason::Tiles)
 }
 
 pub fn check(boxes: &Boxes, width: u32, height: u32) -> Result<(), Fault>
     ensures { result ≡ kept boxes.now width height }
 {
-    if !is_present_as(&boxes.configuration, boxes.definition.is_some()) {
-        return Err(refused(Reason::Presence));
-    }
-    if !side_fits(width) || !side_fits(height) {
-        return Err(refused(Reason::Dimensions));
-    }
+    let present = boxes.definition.is_some();
+    require(
+        is_present_as(&boxes.configuration, present),
+        Reason::Presence,
+    )?;
+    require(side_fits(width) && side_fits(height), Reason::Dimensions)?;
     let listing = boxes.configuration.listing();
-    check_list(boxes, &listing, width, height)
+    let typed = Typed {
+        boxes,
+        listing: &listing,
+    };
+    check_list(&typed, width, height)
 }

@@ -2,7 +2,7 @@
 ghost use Rattle.std.specs.Prelude.{◌≡◌, ◌+◌, ◌<◌};
 ghost use Rattle.rules.specs.Tiles.{side_fits, divides, tiles_fit};
 
-use boxes::{Sampling, Sizes};
+use boxes::Listing;
 
 pub(crate) fn side_fits(n: u32) -> bool
     ensures { result ≡ side_fits n }
@@ -19,9 +19,13 @@ fn is_divided(n: u32, tiles_less_one: u32, shared: u64) -> bool
     n % tiles == 0 && n / tiles % shared == 0
 }
 
-pub(crate) fn tiles_fit(sampling: Sampling, sizes: &Sizes, width: u32, height: u32) -> bool
-    ensures { result ≡ tiles_fit sampling sizes.now width height }
+pub(crate) fn tiles_fit(listing: &Listing, width: u32, height: u32) -> bool
+    ensures { result ≡ tiles_fit listing.now.packing.sampling listing.now.sizes width height }
 {
-    is_divided(width, sizes.tile_columns_less_one, sampling.across())
-        && is_divided(height, sizes.tile_rows_less_one, sampling.down())
+    let sampling = listing.packing.sampling;
+    is_divided(
+        width,
+        listing.sizes.tile_columns_less_one,
+        sampling.across(),
+    ) && is_divided(height, listing.sizes.tile_rows_less_one, sampling.down())
 }
