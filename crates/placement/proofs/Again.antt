@@ -1,7 +1,8 @@
-use Rattle.std.proofs.Common.{◌≡◌, ℕ, zero, suc, ◌+◌, ◌-◌, ◌*◌, ◌<◌, ◌≤◌, Bool, true, false, cond, ltb, leb, ◌≢◌, ◌⊎◌, List, [], ◌∷◌, ◌++◌, length, sym, refl, ap, ◌∙◌, inl, inr, append_assoc, arith}
+use Rattle.std.proofs.Common.{◌≡◌, ℕ, zero, suc, ◌+◌, ◌-◌, ◌*◌, ◌<◌, ◌≤◌, cond, ltb, ◌≢◌, ◌⊎◌, List, [], ◌∷◌, ◌++◌, length, sym, refl, ap, ◌∙◌, inl, inr, append_assoc, arith}
 use Rattle.std.specs.List.{AllByRecursion}
-use Rattle.std.proofs.ByRecursion.{All-append}
-use Rattle.std.proofs.lemmas.Bool.{leb-true, ltb-true, ltb-false, cases_lt, cases_eq}
+use Rattle.std.proofs.lemmas.Bool.{cases_lt, cases_eq}
+use Rattle.std.proofs.lemmas.Bool.Decides.{nat_tests}
+use Rattle.placement.proofs.Cycles.{all_repeated}
 use Rattle.placement.specs.Pack.{Cell, Blocks, block_of, held}
 use Rattle.placement.specs.Line.{repeated}
 use Rattle.placement.specs.Steps.{block_after, held_after}
@@ -28,12 +29,7 @@ block_append b (e ∷ es) ys k o = block_append b es ys (block_of b k o e.depth)
 
 block_moved : (b : Blocks) (es : List Cell) (k o m : ℕ) → block_after b (k + m) o es ≡ block_after b k o es + m
 block_moved b [] k o m = refl
-block_moved b (e ∷ es) k o m = ap (λ (x : ℕ). block_after b x (held b o e.depth + e.depth) es) (go (leb (o + e.depth) (8 * b.bytes)))
-    ∙ block_moved b es (block_of b k o e.depth) (held b o e.depth + e.depth) m
-  where
-    go : (t : Bool) → cond t (k + m) (k + m + 1) ≡ cond t k (k + 1) + m
-    go true = refl
-    go false = omega arith
+block_moved b (e ∷ es) k o m = grind (arith, nat_tests, block_moved b es (block_of b k o e.depth) (held b o e.depth + e.depth) m)
 
 -- from the state after i repetitions
 held_add : (b : Blocks) (cycle : List Cell) (i j : ℕ) → held_at b cycle (i + j) ≡ held_after b (held_at b cycle i) (repeated j cycle)
@@ -105,26 +101,14 @@ find f v (suc n) = go (find f v n) (cases_eq (f n) v)
         below i s h = elim (cases_lt i n) [ inl l ↦ l | inr l ↦ absurd (s (omega arith)) ]
 
 -- v taken out
-squash : ℕ → ℕ → ℕ
+abbrev squash : ℕ → ℕ → ℕ
 squash v x = cond (ltb v x) (x - 1) x
 
 squash_same : (v x y : ℕ) → x ≢ v → y ≢ v → squash v x ≡ squash v y → x ≡ y
-unfolding squash
-squash_same v x y p q = go (ltb v x) (ltb v y) refl refl
-  where
-    go : (s t : Bool) → ltb v x ≡ s → ltb v y ≡ t → cond s (x - 1) x ≡ cond t (y - 1) y → x ≡ y
-    go true true a b e = omega (arith, ltb-true v x a, ltb-true v y b)
-    go true false a b e = absurd (q (omega (arith, ltb-true v x a, ltb-false v y b)))
-    go false true a b e = absurd (p (omega (arith, ltb-false v x a, ltb-true v y b)))
-    go false false a b e = e
+squash_same v x y p q e = grind (arith, nat_tests)
 
 squash_below : (v x m : ℕ) → x ≢ v → x < suc m → v < suc m → squash v x < m
-unfolding squash
-squash_below v x m p h g = go (ltb v x) refl
-  where
-    go : (s : Bool) → ltb v x ≡ s → cond s (x - 1) x < m
-    go true a = omega (arith, ltb-true v x a)
-    go false a = elim (cases_lt x m) [ inl l ↦ l | inr l ↦ absurd (p (omega (arith, ltb-false v x a))) ]
+squash_below v x m p h g = grind (arith, nat_tests)
 
 two_equal : (m : ℕ) (f : ℕ → ℕ) → ((i : ℕ) → i ≤ m → f i < m) → (i : ℕ) × (j : ℕ) × (i < j) × (j ≤ m) × (f i ≡ f j)
 two_equal zero f h = absurd (omega (arith, h 0 (omega arith)))
@@ -140,20 +124,12 @@ two_equal (suc m) f h = go (find f (f (suc m)) (suc m)) (λ g k. two_equal m g k
 
 held_fits : (b : Blocks) (es : List Cell) (o : ℕ) → AllByRecursion (λ e. e.depth ≤ 8 * b.bytes) es → o ≤ 8 * b.bytes → held_after b o es ≤ 8 * b.bytes
 held_fits b [] o a h = h
-held_fits b (e ∷ es) o a h = held_fits b es (held b o e.depth + e.depth) a.1 (go (leb (o + e.depth) (8 * b.bytes)) refl)
-  where
-    go : (t : Bool) → leb (o + e.depth) (8 * b.bytes) ≡ t → cond t o 0 + e.depth ≤ 8 * b.bytes
-    go true q = leb-true _ _ q
-    go false q = omega (arith, a.0)
-
-all_turns : (P : Cell → Type 0) (n : ℕ) (xs : List Cell) → AllByRecursion P xs → AllByRecursion P (repeated n xs)
-all_turns P zero xs a = tt
-all_turns P (suc n) xs a = All-append P xs (repeated n xs) a (all_turns P n xs a)
+held_fits b (e ∷ es) o a h = held_fits b es (held b o e.depth + e.depth) a.1 (grind (arith, nat_tests, a.0))
 
 comes_round : (b : Blocks) (cycle : List Cell) → b.bytes ≤ 8 → AllByRecursion (λ e. e.depth ≤ 8 * b.bytes) cycle
     → (n : ℕ) × (0 < n) × (n ≤ 65) × (held_at b cycle (64 + n) ≡ held_at b cycle 64)
 comes_round b cycle h a =
-    let x = two_equal 65 (held_at b cycle) (λ i l. omega (arith, held_fits b (repeated i cycle) 0 (all_turns (λ e. e.depth ≤ 8 * b.bytes) i cycle a) (omega arith))) in
+    let x = two_equal 65 (held_at b cycle) (λ i l. omega (arith, held_fits b (repeated i cycle) 0 (all_repeated (λ e. e.depth ≤ 8 * b.bytes) i cycle a) (omega arith))) in
     back x.0 x.1 x.2 x.3 x.4
   where
     back : (i j : ℕ) → i < j → j ≤ 65 → held_at b cycle i ≡ held_at b cycle j → (n : ℕ) × (0 < n) × (n ≤ 65) × (held_at b cycle (64 + n) ≡ held_at b cycle 64)
@@ -178,8 +154,4 @@ turns =
 -- bounds
 pub block_near : (b : Blocks) (es : List Cell) (k o : ℕ) → block_after b k o es ≤ k + length es
 block_near b [] k o = omega arith
-block_near b (e ∷ es) k o = omega (arith, go (leb (o + e.depth) (8 * b.bytes)), block_near b es (block_of b k o e.depth) (held b o e.depth + e.depth))
-  where
-    go : (t : Bool) → cond t k (k + 1) ≤ k + 1
-    go true = omega arith
-    go false = omega arith
+block_near b (e ∷ es) k o = grind (arith, nat_tests, block_near b es (block_of b k o e.depth) (held b o e.depth + e.depth))

@@ -1,7 +1,8 @@
 -- Lines packed in blocks.
-use Rattle.std.proofs.Common.{◌≡◌, ℕ, zero, suc, ◌+◌, ◌-◌, ◌*◌, ◌<◌, ◌≤◌, Bool, true, false, cond, eqb, leb, ◌≢◌, ◌⊎◌, List, [], ◌∷◌, length, get_or, sym, refl, ap, ◌∙◌, subst, inl, inr, mul-le-mul_right, arith}
-use Rattle.std.proofs.lemmas.Bool.{leb-true, leb-false, eqb-true}
+use Rattle.std.proofs.Common.{◌≡◌, ℕ, zero, suc, ◌+◌, ◌-◌, ◌*◌, ◌<◌, ◌≤◌, Bool, true, false, cond, leb, ◌≢◌, ◌⊎◌, List, [], ◌∷◌, length, get_or, sym, refl, ap, ◌∙◌, subst, inl, inr, mul-le-mul_right, arith}
+use Rattle.std.proofs.lemmas.Bool.{leb-true, leb-false}
 use Rattle.std.specs.List.{AllByRecursion}
+use Rattle.std.proofs.lemmas.Bool.Decides.{nat_tests}
 use Rattle.placement.specs.Word.{Word, weight, spot, Whole, Apart}
 use Rattle.placement.specs.Pack.{Cell, nowhere, Blocks, total, block_of, held, low_in, block_word, blocked, blocks_end, Blockable, BlockedStands}
 use Rattle.placement.proofs.Words.{spot_of, spot_of_inj, spot_of_low, spot_of_high, weight_below}
@@ -35,20 +36,11 @@ record Behind (b : Blocks) (k o t : ℕ) (w : Word) : Type 0 where
 
 pub total_le : (b : Blocks) (es : List Cell) (o : ℕ) → o ≤ total b o es
 total_le b [] o = omega arith
-total_le b (e ∷ es) o = go (leb (o + e.depth) (8 * b.bytes)) (total_le b es (o + e.depth))
-  where
-    go : (t : Bool) → o + e.depth ≤ total b (o + e.depth) es → o ≤ cond t (total b (o + e.depth) es) o
-    go true h = omega arith
-    go false h = omega arith
+total_le b (e ∷ es) o = grind (arith, nat_tests, total_le b es (o + e.depth))
 
 pub total_fits : (b : Blocks) (es : List Cell) (o : ℕ) → o ≤ 8 * b.bytes → total b o es ≤ 8 * b.bytes
 total_fits b [] o h = h
-total_fits b (e ∷ es) o h = go (leb (o + e.depth) (8 * b.bytes)) refl (total_fits b es (o + e.depth))
-  where
-    go : (t : Bool) → leb (o + e.depth) (8 * b.bytes) ≡ t → (o + e.depth ≤ 8 * b.bytes → total b (o + e.depth) es ≤ 8 * b.bytes)
-        → cond t (total b (o + e.depth) es) o ≤ 8 * b.bytes
-    go true q f = f (leb-true _ _ q)
-    go false q f = h
+total_fits b (e ∷ es) o h = grind (arith, nat_tests, total_fits b es (o + e.depth))
 
 head_behind : (b : Blocks) (k o d k' o' t : ℕ) (es : List Cell) → 0 < d → d ≤ 8 * b.bytes → Step b k o d es k' o' t
     → Behind b k o t (block_word b k' o' (total b (o' + d) es) d)
@@ -115,24 +107,11 @@ blocked_behind b (e ∷ es) k o a (suc n) h =
 
 -- the weights of a value inside the block
 low_inside : (b : Blocks) (o t d : ℕ) → o + d ≤ t → t ≤ 8 * b.bytes → low_in b o t d + d ≤ 8 * b.bytes
-low_inside b o t d h g = go b.pad_low b.reversed
-  where
-    go : (p r : Bool) → cond p (8 * b.bytes - t) 0 + cond r o (t - (o + d)) + d ≤ 8 * b.bytes
-    go true true = omega arith
-    go true false = omega arith
-    go false true = omega arith
-    go false false = omega arith
+low_inside b o t d h g = grind (arith, nat_tests)
 
 low_apart : (b : Blocks) (o o' t d d' i j : ℕ) → o + d ≤ o' → o' + d' ≤ t → t ≤ 8 * b.bytes → i < d → j < d'
     → low_in b o t d + (d - 1 - i) ≢ low_in b o' t d' + (d' - 1 - j)
-low_apart b o o' t d d' i j h g f hi hj = go b.pad_low b.reversed
-  where
-    go : (p r : Bool) → cond p (8 * b.bytes - t) 0 + cond r o (t - (o + d)) + (d - 1 - i)
-        ≢ cond p (8 * b.bytes - t) 0 + cond r o' (t - (o' + d')) + (d' - 1 - j)
-    go true true = omega arith
-    go true false = omega arith
-    go false true = omega arith
-    go false false = omega arith
+low_apart b o o' t d d' i j h g f hi hj e = grind (arith, nat_tests)
 
 block_whole : (b : Blocks) (k o t d : ℕ) → 0 < d → o + d ≤ t → t ≤ 8 * b.bytes → Whole (block_word b k o t d)
 block_whole b k o t d s h g = record { some = s; inside = low_inside b o t d h g }
@@ -189,22 +168,10 @@ blocked_apart b (e ∷ es) k o a zero (suc m) l h =
 blocked_apart b (e ∷ es) k o a (suc n) (suc m) l h =
     blocked_apart b es (block_of b k o e.depth) (held b o e.depth + e.depth) a.1 n m (omega arith) (omega arith)
 
--- the last block
-block_of_ge : (b : Blocks) (k o d : ℕ) → k ≤ block_of b k o d
-block_of_ge b k o d = go (leb (o + d) (8 * b.bytes))
-  where
-    go : (t : Bool) → k ≤ cond t k (k + 1)
-    go true = omega arith
-    go false = omega arith
-
 ends_some : (b : Blocks) (es : List Cell) (k o : ℕ) → 0 < o → AllByRecursion (Blockable b) es → k < blocks_end b k o es
-ends_some b [] k o h a = go (eqb o 0) refl
-  where
-    go : (t : Bool) → eqb o 0 ≡ t → k < cond t k (k + 1)
-    go true q = omega (arith, eqb-true o 0 q)
-    go false q = omega arith
+ends_some b [] k o h a = grind (arith, nat_tests)
 ends_some b (e ∷ es) k o h a =
-    omega (arith, block_of_ge b k o e.depth, ends_some b es (block_of b k o e.depth) (held b o e.depth + e.depth) (omega (arith, a.0.some)) a.1)
+    grind (arith, nat_tests, ends_some b es (block_of b k o e.depth) (held b o e.depth + e.depth) (omega (arith, a.0.some)) a.1)
 
 below_end : (b : Blocks) (es : List Cell) (k o : ℕ) → AllByRecursion (Blockable b) es → (n : ℕ) → n < length (blocked b k o es)
     → (i : ℕ) → i < (get_or (blocked b k o es) n nowhere).depth

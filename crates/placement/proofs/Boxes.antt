@@ -1,7 +1,8 @@
 -- Boxes of one size side by side, and boxes of several sizes one after another.
-use Rattle.std.proofs.Common.{◌≡◌, ℕ, zero, suc, ◌+◌, ◌-◌, ◌*◌, ◌/◌, ◌%◌, ◌<◌, ◌≤◌, Bool, true, false, cond, eqb, ◌≢◌, ◌⊎◌, sym, refl, ap, ◌∙◌, subst, inl, inr, mod-lt, div-add-mod', arith}
+use Rattle.std.proofs.Common.{◌≡◌, ℕ, zero, suc, ◌+◌, ◌-◌, ◌*◌, ◌/◌, ◌%◌, ◌<◌, ◌≤◌, ◌⊎◌, sym, ap, ◌∙◌, subst, inl, inr, div-add-mod', arith}
 use lib.Arith.{digits_div, digits_mod}
-use Rattle.std.proofs.lemmas.Bool.{cases_order, eqb-false}
+use Rattle.std.proofs.lemmas.Bool.{cases_order}
+use Rattle.std.proofs.lemmas.Bool.Decides.{nat_tests}
 use Rattle.placement.specs.Line.{up_to}
 use Rattle.placement.specs.Grid.{summed}
 
@@ -33,10 +34,4 @@ box_apart f g h u v l m e = go (cases_order g h)
     go (inr (inr s)) = absurd (omega (arith, summed_mono f (suc h) g s))
 
 pub up_le : (n m : ℕ) → n ≤ up_to n m
-up_le n m = go (eqb m 0) refl
-  where
-    go : (t : Bool) → eqb m 0 ≡ t → n ≤ cond t n ((n + (m - 1)) / m * m)
-    go true q = omega arith
-    go false q =
-        let z : m ≢ 0 = eqb-false m 0 q in
-        omega (arith, div-add-mod' (n + (m - 1)) m, mod-lt (n + (m - 1)) {m = m} (omega arith))
+up_le n m = grind (arith, nat_tests, div-add-mod' (n + (m - 1)) m)

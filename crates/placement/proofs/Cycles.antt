@@ -5,8 +5,9 @@ use Rattle.std.specs.List.{AllByRecursion}
 use Rattle.std.proofs.ByRecursion.{All-weaker, All-append}
 use Rattle.std.proofs.lemmas.List.{get_or_append_left, get_or-append-add}
 use Rattle.std.proofs.lemmas.Bool.{eqb-true, eqb-false}
+use Rattle.std.proofs.lemmas.Bool.Decides.{nat_tests}
 use Rattle.placement.specs.Word.{Word, Whole, spot}
-use Rattle.placement.specs.Pack.{Cell, nowhere, streamed, aligned, after, packed, packed_end, Packable, Blocks, block_of, held, blocked, blocks_end, Blockable, Sound}
+use Rattle.placement.specs.Pack.{Cell, nowhere, after, packed, packed_end, Packable, Blocks, block_of, held, blocked, blocks_end, Blockable, Sound}
 use Rattle.placement.specs.Line.{Packing, run, run_bytes, Holds, repeated, moved, line_word, CycleFits, LinesStand}
 use Rattle.placement.proofs.Lines.{packed_stands}
 use Rattle.placement.proofs.BlockLines.{blocked_stands}
@@ -19,11 +20,7 @@ packed-length little p (e ∷ es) = ap suc (packed-length little (after p e) es)
 
 pub packed_depth : (little : Bool) (p : ℕ) (es : List Cell) (n : ℕ) (d : Cell) → n < length es → (get_or (packed little p es) n nowhere).depth ≡ (get_or es n d).depth
 packed_depth little p [] n d h = absurd (omega arith)
-packed_depth little p (e ∷ es) zero d h = go (eqb e.align 0)
-  where
-    go : (t : Bool) → (cond t (streamed p e.depth) (aligned little p e)).depth ≡ e.depth
-    go true = refl
-    go false = refl
+packed_depth little p (e ∷ es) zero d h = grind (arith, nat_tests)
 packed_depth little p (e ∷ es) (suc n) d h = packed_depth little (after p e) es n d (omega arith)
 
 pub blocked-length : (b : Blocks) (k o : ℕ) (es : List Cell) → length (blocked b k o es) ≡ length es
@@ -49,18 +46,10 @@ run_sound p es a = go (eqb p.blocks.bytes 0) refl
         (All-weaker (Holds p) (Blockable p.blocks) (λ e h. record { some = h.some; inside = h.in_block (eqb-false _ _ q) }) es a)
 
 pub run_length : (p : Packing) (es : List Cell) → length (run p es) ≡ length es
-run_length p es = go (eqb p.blocks.bytes 0)
-  where
-    go : (t : Bool) → length (cond t (packed p.little 0 es) (blocked p.blocks 0 0 es)) ≡ length es
-    go true = packed-length p.little 0 es
-    go false = blocked-length p.blocks 0 0 es
+run_length p es = grind (arith, nat_tests, packed-length p.little 0 es, blocked-length p.blocks 0 0 es)
 
 pub run_depth : (p : Packing) (es : List Cell) (n : ℕ) (d : Cell) → n < length es → (get_or (run p es) n nowhere).depth ≡ (get_or es n d).depth
-run_depth p es n d h = go (eqb p.blocks.bytes 0)
-  where
-    go : (t : Bool) → (get_or (cond t (packed p.little 0 es) (blocked p.blocks 0 0 es)) n nowhere).depth ≡ (get_or es n d).depth
-    go true = packed_depth p.little 0 es n d h
-    go false = blocked_depth p.blocks 0 0 es n d h
+run_depth p es n d h = grind (arith, nat_tests, packed_depth p.little 0 es n d h, blocked_depth p.blocks 0 0 es n d h)
 
 -- repetitions
 pub length-repeated : {A : Type 0} (n : ℕ) (xs : List A) → length (repeated n xs) ≡ n * length xs
@@ -79,7 +68,7 @@ get_or-repeated (suc n) xs (suc r) c d h l =
     e : suc r * length xs + c ≡ length xs + (r * length xs + c)
     e = omega arith
 
-all_repeated : {A : Type 0} (P : A → Type 0) (n : ℕ) (xs : List A) → AllByRecursion P xs → AllByRecursion P (repeated n xs)
+pub all_repeated : {A : Type 0} (P : A → Type 0) (n : ℕ) (xs : List A) → AllByRecursion P xs → AllByRecursion P (repeated n xs)
 all_repeated P zero xs a = tt
 all_repeated P (suc n) xs a = All-append P xs (repeated n xs) a (all_repeated P n xs a)
 

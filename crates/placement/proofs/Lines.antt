@@ -2,6 +2,7 @@
 use Rattle.std.proofs.Common.{◌≡◌, ℕ, zero, suc, ◌+◌, ◌*◌, ◌/◌, ◌<◌, ◌≤◌, Bool, true, false, cond, eqb, ◌⊎◌, List, [], ◌∷◌, length, get_or, sym, refl, ap, ◌∙◌, subst, inl, inr, arith}
 use Rattle.std.proofs.lemmas.Bool.{cases_order, eqb-false}
 use Rattle.std.specs.List.{AllByRecursion}
+use Rattle.std.proofs.lemmas.Bool.Decides.{nat_tests}
 use Rattle.placement.specs.Word.{Word, weight, spot, Whole, Apart}
 use Rattle.placement.specs.Pack.{Cell, nowhere, streamed, aligned, packed_word, after, packed, packed_end, Packable, Sound, PackedStands}
 use Rattle.placement.proofs.Words.{spot_of_low, spot_of_high, weight_below, own}
@@ -55,11 +56,7 @@ entry_between little p e h = go (eqb e.align 0) refl
         (h.inside (eqb-false e.align 0 q))
 
 after_le : (p : ℕ) (e : Cell) → p ≤ after p e
-after_le p e = go (eqb e.align 0)
-  where
-    go : (t : Bool) → p ≤ cond t (p + e.depth) (8 * ((p + 7) / 8 + e.align))
-    go true = omega arith
-    go false = omega arith
+after_le p e = grind (arith, nat_tests)
 
 pub end_le : (p : ℕ) (es : List Cell) → p ≤ packed_end p es
 end_le p [] = omega arith

@@ -1,11 +1,11 @@
 -- The places of a frame have bits of their own.
-use Rattle.std.proofs.Common.{◌≡◌, ℕ, zero, suc, ◌+◌, ◌-◌, ◌*◌, ◌/◌, ◌%◌, ◌<◌, Bool, true, false, cond, eqb, List, [], ◌∷◌, length, get_or, sym, refl, ap, ◌∙◌, subst, mod-lt, mul-zero, div-add-mod', arith}
+use Rattle.std.proofs.Common.{◌≡◌, ℕ, zero, suc, ◌+◌, ◌-◌, ◌*◌, ◌/◌, ◌%◌, ◌<◌, List, [], ◌∷◌, length, get_or, sym, ap, ◌∙◌, subst, mod-lt, mul-zero, div-add-mod', arith}
 use lib.Arith.{digits_lt}
 use lib.ListN.{length-map}
 use Rattle.std.proofs.ByRecursion.{All-get_or}
 use Rattle.std.proofs.lemmas.List.{get_or-map}
 use Rattle.std.proofs.lemmas.Nat.{div_below}
-use Rattle.std.proofs.lemmas.Bool.{eqb-true, eqb-false}
+use Rattle.std.proofs.lemmas.Bool.Decides.{nat_tests}
 use Rattle.placement.specs.Word.{Whole, spot}
 use Rattle.placement.specs.Pack.{Cell}
 use Rattle.placement.specs.Line.{Holds, line_word, line_bytes, LineSound}
@@ -19,50 +19,19 @@ use Rattle.placement.proofs.Cycles.{lines_stand, spot-moved}
 -- the k-th of c stands in the list, is c, and is the k-th of no other k
 pub nth_below : (c : ℕ) (ds : List Slot) (k : ℕ) → k < times c ds → nth c k ds < length ds
 nth_below c [] k h = absurd (omega arith)
-nth_below c (d ∷ ds) k h = go (eqb d.index c) (eqb k 0) refl h (nth_below c ds (k - 1)) (nth_below c ds k)
-  where
-    go : (t z : Bool) → eqb k 0 ≡ z → k < cond t 1 0 + times c ds
-        → (k - 1 < times c ds → nth c (k - 1) ds < length ds) → (k < times c ds → nth c k ds < length ds)
-        → cond t (cond z 0 (suc (nth c (k - 1) ds))) (suc (nth c k ds)) < suc (length ds)
-    go true true q l f g = omega arith
-    go true false q l f g = omega (arith, f (omega (arith, eqb-false k 0 q)))
-    go false z q l f g = omega (arith, g (omega arith))
+nth_below c (d ∷ ds) k h = grind (arith, nat_tests, nth_below c ds (k - 1), nth_below c ds k)
 
 pub nth_is : (c : ℕ) (ds : List Slot) (k : ℕ) → k < times c ds → (get_or ds (nth c k ds) no_slot).index ≡ c
 nth_is c [] k h = absurd (omega arith)
-nth_is c (d ∷ ds) k h = go (eqb d.index c) (eqb k 0) refl refl h (nth_is c ds (k - 1)) (nth_is c ds k)
-  where
-    go : (t z : Bool) → eqb d.index c ≡ t → eqb k 0 ≡ z → k < cond t 1 0 + times c ds
-        → (k - 1 < times c ds → (get_or ds (nth c (k - 1) ds) no_slot).index ≡ c) → (k < times c ds → (get_or ds (nth c k ds) no_slot).index ≡ c)
-        → (get_or (d ∷ ds) (cond t (cond z 0 (suc (nth c (k - 1) ds))) (suc (nth c k ds))) no_slot).index ≡ c
-    go true true e q l f g = eqb-true d.index c e
-    go true false e q l f g = f (omega (arith, eqb-false k 0 q))
-    go false z e q l f g = g (omega arith)
+nth_is c (d ∷ ds) k h = grind (arith, nat_tests, nth_is c ds (k - 1), nth_is c ds k)
 
 nth_own : (c : ℕ) (ds : List Slot) (k m : ℕ) → k < times c ds → m < times c ds → nth c k ds ≡ nth c m ds → k ≡ m
 nth_own c [] k m h l e = absurd (omega arith)
-nth_own c (d ∷ ds) k m h l e = go (eqb d.index c) (eqb k 0) (eqb m 0) refl refl h l e (nth_own c ds (k - 1) (m - 1)) (nth_own c ds k m)
-  where
-    go : (t z y : Bool) → eqb k 0 ≡ z → eqb m 0 ≡ y → k < cond t 1 0 + times c ds → m < cond t 1 0 + times c ds
-        → cond t (cond z 0 (suc (nth c (k - 1) ds))) (suc (nth c k ds)) ≡ cond t (cond y 0 (suc (nth c (m - 1) ds))) (suc (nth c m ds))
-        → (k - 1 < times c ds → m - 1 < times c ds → nth c (k - 1) ds ≡ nth c (m - 1) ds → k - 1 ≡ m - 1)
-        → (k < times c ds → m < times c ds → nth c k ds ≡ nth c m ds → k ≡ m) → k ≡ m
-    go true true true p q h l e f g = omega (arith, eqb-true k 0 p, eqb-true m 0 q)
-    go true true false p q h l e f g = omega arith
-    go true false true p q h l e f g = omega arith
-    go true false false p q h l e f g =
-        omega (arith, eqb-false k 0 p, eqb-false m 0 q, f (omega (arith, eqb-false k 0 p)) (omega (arith, eqb-false m 0 q)) (omega arith))
-    go false z y p q h l e f g = g (omega arith) (omega arith) (omega arith)
+nth_own c (d ∷ ds) k m h l e = grind (arith, nat_tests, nth_own c ds (k - 1) (m - 1), nth_own c ds k m)
 
 strip_has : (c : ℕ) (ss : List Strip) → strip_with c ss < length ss → 0 < times c (get_or ss (strip_with c ss) no_strip).cycle
 strip_has c [] h = absurd (omega arith)
-strip_has c (s ∷ ss) h = go (eqb (times c s.cycle) 0) refl h (strip_has c ss)
-  where
-    go : (t : Bool) → eqb (times c s.cycle) 0 ≡ t → cond t (suc (strip_with c ss)) 0 < suc (length ss)
-        → (strip_with c ss < length ss → 0 < times c (get_or ss (strip_with c ss) no_strip).cycle)
-        → 0 < times c (get_or (s ∷ ss) (cond t (suc (strip_with c ss)) 0) no_strip).cycle
-    go true q l f = f (omega arith)
-    go false q l f = omega (arith, eqb-false (times c s.cycle) 0 q)
+strip_has c (s ∷ ss) h = grind (arith, nat_tests, strip_has c ss)
 
 -- a factor of a product that has something below it
 factor : (n a b : ℕ) → n < a * b → 0 < b

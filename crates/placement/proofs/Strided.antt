@@ -1,9 +1,10 @@
-use Rattle.std.proofs.Common.{◌≡◌, ℕ, zero, suc, ◌+◌, ◌-◌, ◌*◌, ◌/◌, ◌%◌, ◌<◌, Bool, true, false, cond, eqb, List, [], ◌∷◌, ◌++◌, map, length, get_or, sym, refl, ap, ◌∙◌, arith}
+use Rattle.std.proofs.Common.{◌≡◌, ℕ, zero, suc, ◌+◌, ◌-◌, ◌*◌, ◌/◌, ◌%◌, ◌<◌, Bool, true, false, eqb, List, [], ◌∷◌, ◌++◌, map, length, get_or, sym, refl, ap, ◌∙◌, arith}
 use Rattle.std.proofs.lemmas.List.{get_or_append_left, get_or-append-add}
 use Rattle.std.proofs.lemmas.List.Sums.{fold-append}
 use Rattle.std.proofs.lemmas.Bool.{cond-false, ne_eqb}
+use Rattle.std.proofs.lemmas.Bool.Decides.{nat_tests}
 use Rattle.placement.specs.Word.{Word}
-use Rattle.placement.specs.Pack.{Cell, nowhere, streamed, aligned, packed_word, after, packed, packed_end}
+use Rattle.placement.specs.Pack.{Cell, nowhere, packed_word, after, packed, packed_end}
 use Rattle.placement.specs.Line.{repeated, moved}
 use Rattle.placement.proofs.Cycles.{packed-length}
 use Rattle.placement.proofs.Lines.{end_le}
@@ -11,27 +12,14 @@ use Rattle.placement.specs.Stride.{stride, starts, Strides}
 
 -- whole bytes
 after-moved : (p m : ℕ) (e : Cell) → after (p + 8 * m) e ≡ after p e + 8 * m
-after-moved p m e = go (eqb e.align 0)
-  where
-    go : (t : Bool) → cond t (p + 8 * m + e.depth) (8 * ((p + 8 * m + 7) / 8 + e.align)) ≡ cond t (p + e.depth) (8 * ((p + 7) / 8 + e.align)) + 8 * m
-    go true = omega arith
-    go false = omega arith
+after-moved p m e = grind (arith, nat_tests)
 
 end_moved : (es : List Cell) (p m : ℕ) → packed_end (p + 8 * m) es ≡ packed_end p es + 8 * m
 end_moved [] p m = refl
 end_moved (e ∷ es) p m = ap (λ (x : ℕ). packed_end x es) (after-moved p m e) ∙ end_moved es (after p e) m
 
--- a word by its numbers
-same_word : (f n : ℕ) (l : Bool) (w d f' n' w' : ℕ) → f ≡ f' → n ≡ n' → w ≡ w'
-    → ◌≡◌ {A = Word} (record { first = f; size = n; little = l; low = w; depth = d }) (record { first = f'; size = n'; little = l; low = w'; depth = d })
-same_word f n l w d f' n' w' p q r = cc
-
 word_moved : (little : Bool) (p m : ℕ) (e : Cell) → packed_word little (p + 8 * m) e ≡ moved m (packed_word little p e)
-word_moved little p m e = go (eqb e.align 0)
-  where
-    go : (t : Bool) → cond t (streamed (p + 8 * m) e.depth) (aligned little (p + 8 * m) e) ≡ moved m (cond t (streamed p e.depth) (aligned little p e))
-    go true = same_word _ _ _ _ _ _ _ _ (omega arith) (omega arith) (omega arith)
-    go false = same_word _ _ _ _ _ _ _ _ (omega arith) refl refl
+word_moved little p m e = grind (arith, nat_tests)
 
 packed-moved : (little : Bool) (es : List Cell) (p m : ℕ) → packed little (p + 8 * m) es ≡ map (moved m) (packed little p es)
 packed-moved little [] p m = refl
