@@ -3,6 +3,7 @@ use Rattle.std.proofs.Common.{◌≡◌, ℕ, ◌+◌, ◌/◌, ◌%◌, ◌≤�
 use native.Mathlib.Nat.{le_of_dvd, dvd_of_mod-eq-zero}
 use lib.ListN.{length-map}
 use Rattle.std.proofs.lemmas.Bool.{and_parts, or_cases, eqb-true, leb-true}
+use Rattle.std.proofs.lemmas.Bool.Decides.{nat_tests}
 use Rattle.choices.specs.Choices.{across_of, down_of}
 use Rattle.choices.specs.declared.choice.Interleave.{Interleave}
 use Rattle.choices.specs.declared.choice.Sampling.{Sampling}
@@ -25,25 +26,19 @@ use Rattle.plans.proofs.Tiled.{sides, mixed_three, gridded}
 
 -- a part of a side is no longer than the side
 part_le : (b : Bool) (n a m : ℕ) → n ≤ m → cond b (n / a) n ≤ m
-part_le true n a m l = omega (arith, div-le_self n a)
-part_le false n a m l = l
+part_le b n a m l = grind (arith, nat_tests, div-le_self n a)
 
 -- a side has no more tiles than it is long
 tiles_le : (n t : ℕ) → 1 ≤ n → n % t ≡ 0 → t ≤ n
 tiles_le n t p e = le_of_dvd p (dvd_of_mod-eq-zero t e)
 
 side : (n : ℕ) → side_fits n ≡ true → (1 ≤ n) × (n ≤ 32768)
-side n q = let k = and_parts (leb 1 n) (leb n 32768) q in (leb-true 1 n k.0, leb-true n 32768 k.1)
+side n q = (grind (arith, nat_tests), grind (arith, nat_tests))
 
 module _ (types : Types) (s : Sampling) (v : Interleave) (block : ℕ) (f : Flags) (z : Sizes) (es : List Listed) (w h : ℕ)
     (r : Rules types s v block z es w h) where
   pixel_small : pixel_fits v block z.pixel_size es ≡ true → z.pixel_size ≤ 65535
-  pixel_small q =
-      let p = z.pixel_size in
-      elim (or_cases (eqb p 0) (leb p 65535 && (is_pixel v && (whole_blocks block p && leb (pixel_bytes block es) p))) q) [
-        | inl e ↦ omega (arith, eqb-true p 0 e)
-        | inr b ↦ leb-true p 65535 (and_parts (leb p 65535) (is_pixel v && (whole_blocks block p && leb (pixel_bytes block es) p)) b).0
-      ]
+  pixel_small q = grind (arith, nat_tests)
 
   facts : length es ≤ 16 → side_fits w && side_fits h ≡ true
       → Facts (view types s block f z es w h v)

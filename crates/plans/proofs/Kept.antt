@@ -6,6 +6,7 @@ use Rattle.std.proofs.lemmas.List.Elements.{All-get_or}
 use Rattle.std.proofs.lemmas.List.Folds.{list_any_at}
 use Rattle.std.proofs.lemmas.List.Sums.{AllPass-from_list_all}
 use Rattle.std.proofs.lemmas.Bool.{and_parts, or_cases, eqb-true, eq-eqb, leb-true, ltb-true, not-true, both_ways}
+use Rattle.std.proofs.lemmas.Bool.Decides.{nat_tests}
 use Rattle.fault.specs.declared.reason.Reason.{Reason}
 use Rattle.fault.specs.declared.reason.Reason.TheVariants.{Index, Depth, Interleaving, Blocks, Alignment, Tiles}
 use Rattle.fields.specs.Field.{check}
@@ -49,32 +50,10 @@ pub record Held (block : ℕ) (e : Entry) : Type 0 where
   pub in_block : block ≢ 0 → e.depth_less_one + 1 ≤ 8 * block
 
 depth_small : (f : Format) (d : ℕ) → depth_fits f d ≡ true → d ≤ 64
-depth_small Integer d h = leb-true d 64 (and_parts (leb 1 d) (leb d 64) h).1
-depth_small Float d h =
-    elim (or_cases (eqb d 16) _ h) [
-      | inl a ↦ omega (arith, eqb-true d 16 a)
-      | inr b ↦ complex b
-    ]
-  where
-    complex : eqb d 32 || eqb d 64 ≡ true → d ≤ 64
-    complex b =
-        elim (or_cases (eqb d 32) (eqb d 64) b) [
-          | inl a ↦ omega (arith, eqb-true d 32 a)
-          | inr a ↦ omega (arith, eqb-true d 64 a)
-        ]
-depth_small Complex d h =
-    elim (or_cases (eqb d 32) (eqb d 64) h) [
-      | inl a ↦ omega (arith, eqb-true d 32 a)
-      | inr a ↦ omega (arith, eqb-true d 64 a)
-    ]
+depth_small f d h = grind (arith, nat_tests)
 
 align_small : (a d : ℕ) → align_fits a d ≡ true → (a ≤ 8) × (a ≢ 0 → d ≤ 8 * a)
-align_small a d h =
-    elim (or_cases (eqb a 0) _ h) [
-      | inl z ↦ (omega (arith, eqb-true a 0 z), λ n. absurd (n (eqb-true a 0 z)))
-      | inr z ↦ let k = and_parts (leb a 8) (ltb d (8 * a)) z in
-          (leb-true a 8 k.0, λ n. omega (arith, ltb-true d (8 * a) k.1))
-    ]
+align_small a d h = grind (arith, nat_tests)
 
 -- what all entries of an accepted list keep
 pub record Rules (types : Types) (s : Sampling) (v : Interleave) (block : ℕ) (z : Sizes) (es : List Entry) (w h : ℕ) : Type 0 where
@@ -89,14 +68,10 @@ pub record Rules (types : Types) (s : Sampling) (v : Interleave) (block : ℕ) (
 
 block_held : (block : ℕ) (f : Flags) (es : List Entry) → cond (eqb block 0) (no_block_flags f) (list_all (fits_block block) es) ≡ true
     → block ≢ 0 → (n : ℕ) → n < length es → (get_or es n blank).depth_less_one + 1 ≤ 8 * block
-block_held block f es h z n l = go (eqb block 0) refl h
-  where
-    go : (t : Bool) → eqb block 0 ≡ t → cond t (no_block_flags f) (list_all (fits_block block) es) ≡ true → (get_or es n blank).depth_less_one + 1 ≤ 8 * block
-    go true q k = absurd (z (eqb-true block 0 q))
-    go false q k =
-        let d = get_or es n blank in
-        leb-true (d.depth_less_one + 1) (8 * block)
-        (and_parts (leb (d.depth_less_one + 1) (8 * block)) (eqb d.align 0) (each_at (fits_block block) es k n l)).0
+block_held block f es h z n l =
+    let a : list_all (fits_block block) es ≡ true = grind (arith, nat_tests) in
+    let b = each_at (fits_block block) es a n l in
+    grind (arith, nat_tests)
 
 pub rules_of : (types : Types) (l : Listing) (es : List Entry) (w h : ℕ) → list_kept types l es w h ≡ Ok tt
     → Rules types l.packing.sampling l.packing.interleave l.packing.block l.sizes es w h

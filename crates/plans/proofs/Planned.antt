@@ -6,6 +6,7 @@ use Rattle.std.specs.List.{AllByRecursion, list_all}
 use Rattle.std.proofs.lemmas.List.{get_or-take, get_or-drop, get_or-map, take-map, drop-map}
 use Rattle.std.proofs.ByRecursion.{All-from_get_or, All-map, All-take, All-drop}
 use Rattle.std.proofs.lemmas.Bool.{and_parts, or_cases, eqb-true, eq-eqb, leb-true, not-true, both_ways, cases_order}
+use Rattle.std.proofs.lemmas.Bool.Decides.{nat_tests}
 use Rattle.choices.specs.Choices.{format_number, across_of}
 use Rattle.choices.specs.declared.choice.Interleave.{Interleave}
 use Rattle.choices.specs.declared.choice.Interleave.TheVariants.{Component, Pixel, Mixed, Row, TileComponent, MultiY}
@@ -34,19 +35,7 @@ use Rattle.plans.proofs.Kept.{Rules, each_at}
 -- an interleave that does not go with the sampling 0 lists Y, U and V
 pub unfull : (types : Types) (s : Sampling) (v : Interleave) (es : List Listed) → is_interleaved types s v es ≡ true → goes_with Full v ≡ false
     → (goes_with s v ≡ true) × (yuv types es ≡ true) × (list_fits types s v es ≡ true)
-unfull types Full v es k q = absurd (both_ways (goes_with Full v) q (and_parts (goes_with Full v) true k).0)
-unfull types Yuv422 v es k q =
-    let a = and_parts (goes_with Yuv422 v) (yuv types es && list_fits types Yuv422 v es) k in
-    let b = and_parts (yuv types es) (list_fits types Yuv422 v es) a.1 in
-    (a.0, b.0, b.1)
-unfull types Yuv420 v es k q =
-    let a = and_parts (goes_with Yuv420 v) (yuv types es && list_fits types Yuv420 v es) k in
-    let b = and_parts (yuv types es) (list_fits types Yuv420 v es) a.1 in
-    (a.0, b.0, b.1)
-unfull types Yuv411 v es k q =
-    let a = and_parts (goes_with Yuv411 v) (yuv types es && list_fits types Yuv411 v es) k in
-    let b = and_parts (yuv types es) (list_fits types Yuv411 v es) a.1 in
-    (a.0, b.0, b.1)
+unfull types s v es k q = grind (arith, nat_tests)
 
 -- a part of a cycle is alike where the cycle is
 alike-drop : (k : ℕ) (xs : List Slot) → Alike xs → Alike (drop k xs)
@@ -136,14 +125,8 @@ module _ (types : Types) (s : Sampling) (block : ℕ) (f : Flags) (z : Sizes) (e
 
   no_pixel : (v : Interleave) → is_pixel v ≡ false → Rules types s v block z es w h → z.pixel_size ≡ 0
   no_pixel v q r =
-      let p = z.pixel_size in
-      let a = (and_parts (pixel_fits v block p es) (leb z.row_align 65536 && leb z.tile_align 1048576) r.sizes).0 in
-      elim (or_cases (eqb p 0) (leb p 65535 && (is_pixel v && (whole_blocks block p && leb (pixel_bytes block es) p))) a) [
-        | inl e ↦ eqb-true p 0 e
-        | inr b ↦
-            let c = (and_parts (leb p 65535) (is_pixel v && (whole_blocks block p && leb (pixel_bytes block es) p)) b).1 in
-            absurd (both_ways (is_pixel v) q (and_parts (is_pixel v) (whole_blocks block p && leb (pixel_bytes block es) p) c).0)
-      ]
+      let a = r.sizes in
+      grind (arith, nat_tests)
 
   -- the bytes of a pixel are those of a run
   pixel_same : run_bytes packing (map (λ t. t.cell) (map slot_of (map entry es))) ≡ pixel_bytes block es
@@ -154,15 +137,8 @@ module _ (types : Types) (s : Sampling) (block : ℕ) (f : Flags) (z : Sizes) (e
 
   pixel_fits_lem : (v : Interleave) → Rules types s v block z es w h → z.pixel_size ≢ 0 → pixel_bytes block es ≤ z.pixel_size
   pixel_fits_lem v r n =
-      let p = z.pixel_size in
-      let a = (and_parts (pixel_fits v block p es) (leb z.row_align 65536 && leb z.tile_align 1048576) r.sizes).0 in
-      elim (or_cases (eqb p 0) (leb p 65535 && (is_pixel v && (whole_blocks block p && leb (pixel_bytes block es) p))) a) [
-        | inl e ↦ absurd (n (eqb-true p 0 e))
-        | inr b ↦
-            let c = (and_parts (leb p 65535) (is_pixel v && (whole_blocks block p && leb (pixel_bytes block es) p)) b).1 in
-            let d = (and_parts (is_pixel v) (whole_blocks block p && leb (pixel_bytes block es) p) c).1 in
-            leb-true (pixel_bytes block es) p (and_parts (whole_blocks block p) (leb (pixel_bytes block es) p) d).1
-      ]
+      let a = r.sizes in
+      grind (arith, nat_tests)
 
   dry : (v : Interleave) → is_pixel v ≡ false → Rules types s v block z es w h → (xs : List Entry) → AllByRecursion (λ e. Holds packing (cell_of e)) xs
       → CycleFits packing (map (λ t. t.cell) (map slot_of xs))

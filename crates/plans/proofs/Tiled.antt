@@ -4,6 +4,7 @@ use native.Mathlib.Nat.{div-add-mod, div-eq_of_eq-mul_left, div-eq_of_eq-mul_rig
 use lib.ListN.{length-map}
 use Rattle.std.specs.List.{list_all}
 use Rattle.std.proofs.lemmas.Bool.{and_parts, or_cases, eqb-true, eq-eqb, ne_eqb, not-true, both_ways, cases_order, cases_Bool}
+use Rattle.std.proofs.lemmas.Bool.Decides.{nat_tests}
 use Rattle.choices.specs.Choices.{across_of, down_of}
 use Rattle.choices.specs.declared.choice.Interleave.{Interleave}
 use Rattle.choices.specs.declared.choice.Interleave.TheVariants.{Component, Pixel, Mixed, Row, TileComponent, MultiY}
@@ -31,24 +32,18 @@ use Rattle.plans.proofs.Planned.{unfull, entry, view, entry_at_lem, slot_at, alo
 
 pub times_pos : (c : ℕ) (xs : List Slot) (k : ℕ) → k < length xs → (get_or xs k no_slot).index ≡ c → 0 < times c xs
 times_pos c [] k l e = absurd (omega arith)
-times_pos c (x ∷ xs) zero l e = subst (λ (b : Bool). 0 < cond b 1 0 + times c xs) (sym (eq-eqb x.index c e)) (omega arith)
+times_pos c (x ∷ xs) zero l e = grind (arith, nat_tests)
 times_pos c (x ∷ xs) (suc k) l e = omega (arith, times_pos c xs k (omega arith) e)
 
 pub times_none : (c : ℕ) (xs : List Slot) → ((k : ℕ) → k < length xs → (get_or xs k no_slot).index ≢ c) → times c xs ≡ 0
 times_none c [] f = refl
-times_none c (x ∷ xs) f =
-    ap (λ (b : Bool). cond b 1 0 + times c xs) (ne_eqb x.index c (f 0 (omega arith)))
-    ∙ zero-add (times c xs) ∙ times_none c xs (λ k l. f (suc k) (omega arith))
+times_none c (x ∷ xs) f = grind (arith, nat_tests, f 0 (omega arith), times_none c xs (λ k l. f (suc k) (omega arith)))
 
 times_one : (c : ℕ) (xs : List Slot) (k : ℕ) → k < length xs → (get_or xs k no_slot).index ≡ c
     → ((m : ℕ) → m < length xs → (get_or xs m no_slot).index ≡ c → m ≡ k) → times c xs ≡ 1
 times_one c [] k l e f = absurd (omega arith)
-times_one c (x ∷ xs) zero l e f =
-    ap (λ (b : Bool). cond b 1 0 + times c xs) (eq-eqb x.index c e)
-    ∙ ap (λ (n : ℕ). 1 + n) (times_none c xs (λ k q i. absurd (omega (arith, f (suc k) (omega arith) i))))
-times_one c (x ∷ xs) (suc k) l e f =
-    ap (λ (b : Bool). cond b 1 0 + times c xs) (ne_eqb x.index c (λ i. absurd (omega (arith, f 0 (omega arith) i))))
-    ∙ zero-add (times c xs) ∙ times_one c xs k (omega arith) e (λ m q i. omega (arith, f (suc m) (omega arith) i))
+times_one c (x ∷ xs) zero l e f = grind (arith, nat_tests, times_none c xs (λ k q i. absurd (omega (arith, f (suc k) (omega arith) i))))
+times_one c (x ∷ xs) (suc k) l e f = grind (arith, nat_tests, f 0 (omega arith), times_one c xs k (omega arith) e (λ m q i. omega (arith, f (suc m) (omega arith) i)))
 
 -- where each slot is of one of three components
 times-three : (a b c : ℕ) → a ≢ b → a ≢ c → b ≢ c → (xs : List Slot)
@@ -56,33 +51,14 @@ times-three : (a b c : ℕ) → a ≢ b → a ≢ c → b ≢ c → (xs : List S
     → times a xs + times b xs + times c xs ≡ length xs
 times-three a b c p q r [] f = refl
 times-three a b c p q r (x ∷ xs) f =
-    let k = times-three a b c p q r xs (λ k l. f (suc k) (omega arith)) in
-    elim (f 0 (omega arith)) [
-      | inl i ↦ go true false false (eq-eqb x.index a i) (ne_eqb x.index b (λ j. p (sym i ∙ j))) (ne_eqb x.index c (λ j. q (sym i ∙ j))) (omega arith)
-      | inr o ↦ elim o [
-        | inl i ↦ go false true false (ne_eqb x.index a (λ j. p (sym j ∙ i))) (eq-eqb x.index b i) (ne_eqb x.index c (λ j. r (sym i ∙ j))) (omega arith)
-        | inr i ↦ go false false true (ne_eqb x.index a (λ j. q (sym j ∙ i))) (ne_eqb x.index b (λ j. r (sym j ∙ i))) (eq-eqb x.index c i) (omega arith)
-      ]
-    ]
-  where
-    go : (t u v : Bool) → eqb x.index a ≡ t → eqb x.index b ≡ u → eqb x.index c ≡ v
-        → cond t 1 0 + times a xs + (cond u 1 0 + times b xs) + (cond v 1 0 + times c xs) ≡ suc (length xs)
-        → cond (eqb x.index a) 1 0 + times a xs + (cond (eqb x.index b) 1 0 + times b xs) + (cond (eqb x.index c) 1 0 + times c xs) ≡ suc (length xs)
-    go t u v i j k e =
-        ap (λ (y : Bool). cond y 1 0 + times a xs + (cond (eqb x.index b) 1 0 + times b xs) + (cond (eqb x.index c) 1 0 + times c xs)) i
-        ∙ ap (λ (y : Bool). cond t 1 0 + times a xs + (cond y 1 0 + times b xs) + (cond (eqb x.index c) 1 0 + times c xs)) j
-        ∙ ap (λ (y : Bool). cond t 1 0 + times a xs + (cond u 1 0 + times b xs) + (cond y 1 0 + times c xs)) k
-        ∙ e
+    grind (arith, nat_tests, f 0 (omega arith), times-three a b c p q r xs (λ k l. f (suc k) (omega arith)))
 
 -- the strip that has a component, where none before it has
 pub home_at : (c : ℕ) (ss : List Strip) (g : ℕ) → g < length ss → 0 < times c (get_or ss g no_strip).cycle
     → ((k : ℕ) → k < g → times c (get_or ss k no_strip).cycle ≡ 0) → strip_with c ss ≡ g
 home_at c [] g l p f = absurd (omega arith)
-home_at c (s ∷ ss) zero l p f =
-    ap (λ (b : Bool). cond b (suc (strip_with c ss)) 0) (ne_eqb (times c s.cycle) 0 (λ e. absurd (omega arith)))
-home_at c (s ∷ ss) (suc g) l p f =
-    ap (λ (b : Bool). cond b (suc (strip_with c ss)) 0) (eq-eqb (times c s.cycle) 0 (f 0 (omega arith)))
-    ∙ ap suc (home_at c ss g (omega arith) p (λ k q. f (suc k) (omega arith)))
+home_at c (s ∷ ss) zero l p f = grind (arith, nat_tests)
+home_at c (s ∷ ss) (suc g) l p f = grind (arith, nat_tests, f 0 (omega arith), home_at c ss g (omega arith) p (λ k q. f (suc k) (omega arith)))
 
 -- where an entry stands: in slot k of the strip g, and in no strip before it
 record Spot (ss : List Strip) (across down : ℕ) (e : Entry) : Type 0 where
@@ -129,16 +105,10 @@ parted true n t a p q e f = again (n / a) t (n / t / a) p (shared n t a q e f)
 parted false n t a p q e f = whole n t e
 
 across_some : (s : Sampling) → 0 < across_of s
-across_some Full = omega arith
-across_some Yuv422 = omega arith
-across_some Yuv420 = omega arith
-across_some Yuv411 = omega arith
+across_some s = grind arith
 
 down_some : (s : Sampling) → 0 < down_of s
-down_some Full = omega arith
-down_some Yuv422 = omega arith
-down_some Yuv420 = omega arith
-down_some Yuv411 = omega arith
+down_some s = grind arith
 
 pub record Divided (n t a : ℕ) : Type 0 where
   pub tiles : n % t ≡ 0
@@ -157,8 +127,8 @@ sides s z w h k =
 
 -- the number of a type
 number : (o : Option ℕ) (k : ℕ) → is_number o k ≡ true → defined_as o ≡ k
-number None k e = absurd (both_ways false refl e)
-number (Some n) k e = eqb-true n k e
+number None k e = grind (arith, nat_tests)
+number (Some n) k e = grind (arith, nat_tests)
 
 module _ (types : Types) (s : Sampling) (block : ℕ) (f : Flags) (z : Sizes) (es : List Listed) (w h : ℕ) where
   abbrev at : ℕ → Listed
