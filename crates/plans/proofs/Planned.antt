@@ -168,14 +168,7 @@ module _ (types : Types) (s : Sampling) (block : ℕ) (f : Flags) (z : Sizes) (e
   -- outside interleave 5 no index is listed twice
   pub own : (v : Interleave) → is_multi_y v ≡ false → Rules types s v block z es w h → (n m : ℕ) → n < length es → m < length es
       → (get_or es n blank).index ≡ (get_or es m blank).index → n ≡ m
-  own v q r n m i j e =
-      elim (cases_order n m) [
-        | inl k ↦ k
-        | inr k ↦ elim k [
-          | inl a ↦ absurd (both_ways (is_multi_y v) q (r.once n m a j e).0)
-          | inr a ↦ absurd (both_ways (is_multi_y v) q (r.once m n a i (sym e)).0)
-        ]
-      ]
+  own v q r n m i j e = grind (arith, nat_tests, r.once n m, r.once m n)
 
   abbrev SameDepth : Type 0
   SameDepth = (n m : ℕ) → n < length es → m < length es → (get_or es n blank).index ≡ (get_or es m blank).index
@@ -186,17 +179,10 @@ module _ (types : Types) (s : Sampling) (block : ℕ) (f : Flags) (z : Sizes) (e
 
   many_depth : Rules types s MultiY block z es w h → SameDepth
   many_depth r n m i j e =
-      let a = get_or es n blank in
-      let b = get_or es m blank in
       let k = (unfull types s MultiY es r.interleaved refl).2 in
-      let k1 = (and_parts (eqb (length es) (2 + across_of s)) (list_all (is_yuv types) es && list_all (λ x. list_all (interleaving.alike x) es) es) k).1 in
-      let k2 = (and_parts (list_all (is_yuv types) es) (list_all (λ x. list_all (interleaving.alike x) es) es) k1).1 in
-      let k3 = each_at (interleaving.alike a) es (each_at (λ x. list_all (interleaving.alike x) es) es k2 n i) m j in
-      let rest : Bool = eqb (format_number a.format) (format_number b.format) && eqb a.align b.align in
-      elim (or_cases (not (eqb a.index b.index)) (eqb a.depth_less_one b.depth_less_one && rest) k3) [
-        | inl c ↦ absurd (both_ways (eqb a.index b.index) (not-true (eqb a.index b.index) c) (eq-eqb a.index b.index e))
-        | inr c ↦ eqb-true a.depth_less_one b.depth_less_one (and_parts (eqb a.depth_less_one b.depth_less_one) rest c).0
-      ]
+      let a : list_all (λ x. list_all (interleaving.alike x) es) es ≡ true = grind (arith, nat_tests) in
+      let b = each_at (interleaving.alike (get_or es n blank)) es (each_at (λ x. list_all (interleaving.alike x) es) es a n i) m j in
+      grind (arith, nat_tests)
 
   alike_all : SameDepth → Alike (map slot_of (map entry es))
   alike_all a n m q p e =
@@ -227,14 +213,7 @@ module _ (types : Types) (s : Sampling) (block : ℕ) (f : Flags) (z : Sizes) (e
   alikes MultiY r (suc g) l = absurd (omega arith)
 
   full_rows : (t : Sampling) → goes_with t Row ≡ true → (number : ℕ) → rows_of t h number ≡ h
-  full_rows Full q number = go (is_chroma number)
-    where
-      go : (b : Bool) → cond b (h / 1) h ≡ h
-      go true = div-one h
-      go false = refl
-  full_rows Yuv422 q number = absurd (both_ways false refl q)
-  full_rows Yuv420 q number = absurd (both_ways false refl q)
-  full_rows Yuv411 q number = absurd (both_ways false refl q)
+  full_rows t q number = grind (arith, nat_tests, div-one h)
 
   row_even : Rules types s Row block z es w h → (g : ℕ) → g < length es
       → (get_or (map (alone (view Row)) (map entry es)) g no_strip).rows ≡ h / (z.tile_rows_less_one + 1)

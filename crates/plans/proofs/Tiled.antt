@@ -101,8 +101,7 @@ again x t y p e = e ∙ ap (λ (k : ℕ). t * k) (sym (div-eq_of_eq-mul_right p 
 
 -- a side, or its part that chroma has, in tiles
 parted : (b : Bool) (n t a : ℕ) → 0 < t → 0 < a → n % t ≡ 0 → n / t % a ≡ 0 → cond b (n / a) n ≡ t * (cond b (n / a) n / t)
-parted true n t a p q e f = again (n / a) t (n / t / a) p (shared n t a q e f)
-parted false n t a p q e f = whole n t e
+parted b n t a p q e f = grind (arith, nat_tests, again (n / a) t (n / t / a) p (shared n t a q e f), whole n t e)
 
 across_some : (s : Sampling) → 0 < across_of s
 across_some s = grind arith
@@ -115,15 +114,12 @@ pub record Divided (n t a : ℕ) : Type 0 where
   pub parts : n / t % a ≡ 0
 
 divided : (n t a : ℕ) → divides n t a ≡ true → Divided n t a
-divided n t a h =
-    let k = and_parts (eqb (n % t) 0) (eqb (n / t % a) 0) h in
-    record { tiles = eqb-true (n % t) 0 k.0; parts = eqb-true (n / t % a) 0 k.1 }
+divided n t a h = record { tiles = grind (arith, nat_tests); parts = grind (arith, nat_tests) }
 
 pub sides : (s : Sampling) (z : Sizes) (w h : ℕ) → tiles_fit s z w h ≡ true
     → Divided w (z.tile_columns_less_one + 1) (across_of s) × Divided h (z.tile_rows_less_one + 1) (down_of s)
 sides s z w h k =
-    let a = and_parts (divides w (z.tile_columns_less_one + 1) (across_of s)) (divides h (z.tile_rows_less_one + 1) (down_of s)) k in
-    (divided w (z.tile_columns_less_one + 1) (across_of s) a.0, divided h (z.tile_rows_less_one + 1) (down_of s) a.1)
+    (divided w (z.tile_columns_less_one + 1) (across_of s) (grind (arith, nat_tests)), divided h (z.tile_rows_less_one + 1) (down_of s) (grind (arith, nat_tests)))
 
 -- the number of a type
 number : (o : Option ℕ) (k : ℕ) → is_number o k ≡ true → defined_as o ≡ k
@@ -204,14 +200,10 @@ module _ (types : Types) (s : Sampling) (block : ℕ) (f : Flags) (z : Sizes) (e
       (λ m q e. only m (omega (arith, slots_count)) (sym (slot_index m (omega (arith, slots_count))) ∙ e))
 
   full_side : (b : Bool) (n a : ℕ) → a ≡ 1 → cond b (n / a) n ≡ n
-  full_side true n a e = ap (λ (x : ℕ). n / x) e ∙ div-one n
-  full_side false n a e = refl
+  full_side b n a e = grind (arith, nat_tests, div-one n)
 
   pixel_full : (t : Sampling) → goes_with t Pixel ≡ true → (across_of t ≡ 1) × (down_of t ≡ 1)
-  pixel_full Full q = (refl, refl)
-  pixel_full Yuv422 q = absurd (both_ways false refl q)
-  pixel_full Yuv420 q = absurd (both_ways false refl q)
-  pixel_full Yuv411 q = absurd (both_ways false refl q)
+  pixel_full t q = grind arith
 
   pixel_spot : Rules types s Pixel block z es w h → (n : ℕ) → n < length es
       → Spot (together (map settled es) (w / T) (h / R) ∷ []) T R (settled (at n))
@@ -226,10 +218,7 @@ module _ (types : Types) (s : Sampling) (block : ℕ) (f : Flags) (z : Sizes) (e
 
   -- interleave 5
   many_sides : (t : Sampling) → goes_with t MultiY ≡ true → (across_of t ≡ across_of t) × (down_of t ≡ 1)
-  many_sides Full q = absurd (both_ways false refl q)
-  many_sides Yuv422 q = (refl, refl)
-  many_sides Yuv420 q = absurd (both_ways false refl q)
-  many_sides Yuv411 q = (refl, refl)
+  many_sides t q = grind arith
 
   -- some entry has the type, where not all do not
   finds : (k : ℕ) (xs : List Listed) → list_all (λ e. not (is_of types k e)) xs ≡ false
@@ -251,19 +240,15 @@ module _ (types : Types) (s : Sampling) (block : ℕ) (f : Flags) (z : Sizes) (e
 
   kind_of : (k : ℕ) → one_index_of types k es ≡ true → Kind k
   kind_of k q =
-      let a = and_parts (not (list_all (λ e. not (is_of types k e)) es)) (list_all (λ e. list_all (same_of types k e) es) es) q in
-      let o = finds k es (not-true (list_all (λ e. not (is_of types k e)) es) a.0) in
+      let same : list_all (λ e. list_all (same_of types k e) es) es ≡ true = grind (arith, nat_tests) in
+      let o = finds k es (grind (arith, nat_tests)) in
       record {
         place = o.0;
         below = o.1;
         kind = o.2;
         only = λ n l i.
-            let b = each_at (same_of types k (at n)) es (each_at (λ e. list_all (same_of types k e) es) es a.1 n l) o.0 o.1 in
-            elim (or_cases (not (is_of types k (at n) && is_of types k (at o.0))) (eqb (at n).index (at o.0).index) b) [
-              | inl c ↦ absurd (both_ways (is_of types k (at n) && is_of types k (at o.0)) (not-true (is_of types k (at n) && is_of types k (at o.0)) c)
-                  (ap (λ (x : Bool). x && is_of types k (at o.0)) i ∙ o.2))
-              | inr c ↦ eqb-true (at n).index (at o.0).index c
-            ];
+            let b = each_at (same_of types k (at n)) es (each_at (λ e. list_all (same_of types k e) es) es same n l) o.0 o.1 in
+            let c = o.2 in grind (arith, nat_tests);
       }
 
   -- entries of different types list different indexes
@@ -272,11 +257,7 @@ module _ (types : Types) (s : Sampling) (block : ℕ) (f : Flags) (z : Sizes) (e
       q (sym (number (types (at n).index) j a) ∙ ap (λ (x : ℕ). defined_as (types x)) e ∙ number (types (at m).index) k b)
 
   yuv-cases : (n : ℕ) → is_yuv types (at n) ≡ true → (is_of types 1 (at n) ≡ true) ⊎ ((is_of types 2 (at n) ≡ true) ⊎ (is_of types 3 (at n) ≡ true))
-  yuv-cases n q =
-      elim (or_cases (is_of types 1 (at n)) (is_of types 2 (at n) || is_of types 3 (at n)) q) [
-        | inl a ↦ inl a
-        | inr b ↦ inr (or_cases (is_of types 2 (at n)) (is_of types 3 (at n)) b)
-      ]
+  yuv-cases n q = grind (arith, nat_tests)
 
   -- the grids of Y, and of U and V
   luma_grid : (n : ℕ) → is_of types 1 (at n) ≡ true → ((settled (at n)).columns ≡ w) × ((settled (at n)).rows ≡ h)
@@ -287,14 +268,9 @@ module _ (types : Types) (s : Sampling) (block : ℕ) (f : Flags) (z : Sizes) (e
   chroma_grid : (n : ℕ) → (is_of types 2 (at n) ≡ true) ⊎ (is_of types 3 (at n) ≡ true)
       → ((settled (at n)).columns ≡ w / across_of s) × ((settled (at n)).rows ≡ h / down_of s)
   chroma_grid n o =
-      elim o [
-        | inl q ↦
-            let k = number (types (at n).index) 2 q in
-            (ap (λ (x : ℕ). columns_of s w x) k, ap (λ (x : ℕ). rows_of s h x) k)
-        | inr q ↦
-            let k = number (types (at n).index) 3 q in
-            (ap (λ (x : ℕ). columns_of s w x) k, ap (λ (x : ℕ). rows_of s h x) k)
-      ]
+      let a = number (types (at n).index) 2 in
+      let b = number (types (at n).index) 3 in
+      grind (arith, nat_tests, a, b)
 
   -- in interleave 5 only Y stands more than once
   chroma_once : Rules types s MultiY block z es w h → (k : ℕ) → 1 ≢ k → (n : ℕ) → n < length es → is_of types k (at n) ≡ true
