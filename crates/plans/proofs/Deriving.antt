@@ -1,8 +1,7 @@
 -- What the rules say of an accepted layout, put together.
-use Rattle.std.proofs.Common.{◌≡◌, ℕ, ◌+◌, ◌/◌, ◌%◌, ◌≤◌, Bool, true, false, cond, ◌&&◌, eqb, leb, List, length, get_or, sym, ◌∙◌, subst, inl, inr, div-le_self, arith}
+use Rattle.std.proofs.Common.{◌≡◌, ℕ, ◌+◌, ◌/◌, ◌%◌, ◌≤◌, Bool, true, cond, ◌&&◌, List, length, get_or, sym, ◌∙◌, subst, div-le_self, arith}
 use native.Mathlib.Nat.{le_of_dvd, dvd_of_mod-eq-zero}
 use lib.ListN.{length-map}
-use Rattle.std.proofs.lemmas.Bool.{and_parts, or_cases, eqb-true, leb-true}
 use Rattle.std.proofs.lemmas.Bool.Decides.{nat_tests}
 use Rattle.choices.specs.Choices.{across_of, down_of}
 use Rattle.choices.specs.declared.choice.Interleave.{Interleave}
@@ -13,7 +12,7 @@ use Rattle.configuration.specs.Entries.{blank}
 use Rattle.configuration.specs.declared.entry.Entry.{Entry as Listed}
 use Rattle.configuration.specs.declared.listing.Sizes.{Sizes}
 use Rattle.rules.specs.Entries.{Types}
-use Rattle.rules.specs.Packing.{is_pixel, pixel_bytes, whole_blocks, pixel_fits}
+use Rattle.rules.specs.Packing.{pixel_fits}
 use Rattle.rules.specs.Tiles.{side_fits}
 use Rattle.plans.specs.Entries.{is_chroma}
 use Rattle.plans.specs.Facts.{Facts}
@@ -43,20 +42,18 @@ module _ (types : Types) (s : Sampling) (v : Interleave) (block : ℕ) (f : Flag
   facts : length es ≤ 16 → side_fits w && side_fits h ≡ true
       → Facts (view types s block f z es w h v)
   facts few q =
-      let k = and_parts (side_fits w) (side_fits h) q in
-      let x = side w k.0 in
-      let y = side h k.1 in
-      let sizes = and_parts (pixel_fits v block z.pixel_size es) (leb z.row_align 65536 && leb z.tile_align 1048576) r.sizes in
-      let aligns = and_parts (leb z.row_align 65536) (leb z.tile_align 1048576) sizes.1 in
+      let x = side w (grind (arith, nat_tests)) in
+      let y = side h (grind (arith, nat_tests)) in
+      let sizes = r.sizes in
       let d = sides s z w h r.tiles in
       let count = length-map es (entry types s block f z es w h) in
       record {
         few = omega arith;
         cells = small types s block f z es w h r;
         block = r.blocks;
-        pixel = pixel_small sizes.0;
-        row = leb-true z.row_align 65536 aligns.0;
-        tile = leb-true z.tile_align 1048576 aligns.1;
+        pixel = pixel_small (grind (arith, nat_tests));
+        row = grind (arith, nat_tests);
+        tile = grind (arith, nat_tests);
         width = x.1;
         height = y.1;
         across = (omega arith, omega (arith, tiles_le w (z.tile_columns_less_one + 1) x.0 d.0.tiles, x.1));

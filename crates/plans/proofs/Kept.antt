@@ -1,18 +1,17 @@
 -- What a list of entries that keeps the rules is known to be.
-use Rattle.std.proofs.Common.{◌≡◌, ℕ, zero, suc, ◌+◌, ◌*◌, ◌<◌, ◌≤◌, Bool, true, false, cond, not, ◌&&◌, ◌||◌, eqb, ltb, leb, ◌≢◌, List, [], ◌∷◌, ◌++◌, length, get_or, take, is_some, Ok, sym, refl, ap, ◌∙◌, inl, inr, arith}
+use Rattle.std.proofs.Common.{◌≡◌, ℕ, zero, suc, ◌+◌, ◌*◌, ◌<◌, ◌≤◌, Bool, true, cond, eqb, leb, ◌≢◌, List, [], ◌∷◌, ◌++◌, length, get_or, take, Ok, sym, ap, ◌∙◌, arith}
 use Rattle.std.specs.List.{list_all}
 use Rattle.std.proofs.lemmas.List.{append-nil, append_assoc, get_or-take, length-take-le}
 use Rattle.std.proofs.lemmas.List.Elements.{All-get_or}
 use Rattle.std.proofs.lemmas.List.Folds.{list_any_at}
 use Rattle.std.proofs.lemmas.List.Sums.{AllPass-from_list_all}
-use Rattle.std.proofs.lemmas.Bool.{and_parts, or_cases, eqb-true, eq-eqb, leb-true, ltb-true, not-true, both_ways}
+use Rattle.std.proofs.lemmas.Bool.{eq-eqb, leb-true}
 use Rattle.std.proofs.lemmas.Bool.Decides.{nat_tests}
 use Rattle.fault.specs.declared.reason.Reason.{Reason}
 use Rattle.fault.specs.declared.reason.Reason.TheVariants.{Index, Depth, Interleaving, Blocks, Alignment, Tiles}
 use Rattle.fields.specs.Field.{check}
 use Rattle.fields.proofs.Chains.{then_ok, check_ok}
 use Rattle.choices.specs.declared.choice.Format.{Format}
-use Rattle.choices.specs.declared.choice.Format.TheVariants.{Integer, Float, Complex}
 use Rattle.choices.specs.declared.choice.Interleave.{Interleave}
 use Rattle.choices.specs.declared.choice.Sampling.{Sampling}
 use Rattle.choices.specs.declared.flags.Flags.{Flags}
@@ -20,9 +19,9 @@ use Rattle.configuration.specs.Entries.{blank}
 use Rattle.configuration.specs.declared.entry.Entry.{Entry}
 use Rattle.configuration.specs.declared.listing.Listing.{Listing}
 use Rattle.configuration.specs.declared.listing.Sizes.{Sizes}
-use Rattle.rules.specs.Entries.{Types, is_of, is_multi_y, lists, is_integer, indexed, depth_fits, align_fits, deep}
+use Rattle.rules.specs.Entries.{Types, is_of, is_multi_y, lists, indexed, depth_fits, align_fits, deep}
 use Rattle.rules.specs.Interleaving.{is_interleaved}
-use Rattle.rules.specs.Packing.{fits_block, is_aligned, no_block_flags, blocks_fit, sizes_fit}
+use Rattle.rules.specs.Packing.{fits_block, no_block_flags, blocks_fit, sizes_fit}
 use Rattle.rules.specs.Rules.{each_keeps, broken, broken_at}
 use Rattle.rules.specs.Tiles.{tiles_fit}
 use Rattle.rules.specs.Whole.{list_kept}
@@ -95,39 +94,26 @@ rules_of types l es w h kept =
         × (cond (eqb l.packing.block 0) (no_block_flags l.packing.flags) (list_all (fits_block l.packing.block) es) ≡ true)
 
     block-parts : blocks_fit l.packing.block l.packing.flags es ≡ true → BlocksKept
-    block-parts k =
-        let a = and_parts (leb l.packing.block 8)
-        (cond (eqb l.packing.block 0) (no_block_flags l.packing.flags) (list_all (fits_block l.packing.block) es)
-        && (not l.packing.flags.components_little_endian || list_all is_aligned es)) k in
-        let b = and_parts (cond (eqb l.packing.block 0) (no_block_flags l.packing.flags) (list_all (fits_block l.packing.block) es))
-        (not l.packing.flags.components_little_endian || list_all is_aligned es) a.1 in
-        (a.0, b.0)
+    block-parts k = (grind (arith, nat_tests), grind (arith, nat_tests))
 
     first-once : each_keeps (indexed types l.packing.interleave) Index [] es ≡ Ok tt
         → (n m : ℕ) → n < m → m < length es → (get_or es n blank).index ≡ (get_or es m blank).index
         → (is_multi_y l.packing.interleave ≡ true) × (is_of types 1 (get_or es m blank) ≡ true)
     first-once a n m q p e =
         let d = get_or es m blank in
-        let k = (and_parts (is_some (types d.index)) (not (lists d.index (take m es)) || (is_multi_y l.packing.interleave && is_of types 1 d))
-        (kept_at (indexed types l.packing.interleave) Index [] es a m p)).1 in
+        let k = kept_at (indexed types l.packing.interleave) Index [] es a m p in
         let before : lists d.index (take m es) ≡ true =
         list_any_at (λ x. eqb x.index d.index) (take m es) n blank (omega (arith, length-take-le m es (omega arith)))
         (eq-eqb _ _ (ap (λ (x : Entry). x.index) (get_or-take m es n blank q) ∙ e)) in
-        elim (or_cases (not (lists d.index (take m es))) (is_multi_y l.packing.interleave && is_of types 1 d) k) [
-          | inl z ↦ absurd (both_ways (lists d.index (take m es)) (not-true (lists d.index (take m es)) z) before)
-          | inr z ↦ and_parts (is_multi_y l.packing.interleave) (is_of types 1 d) z
-        ]
+        (grind (arith, nat_tests), grind (arith, nat_tests))
 
     helds : each_keeps (deep types) Depth [] es ≡ Ok tt → BlocksKept → (n : ℕ) → n < length es → Held l.packing.block (get_or es n blank)
     helds a b n q =
         let d = get_or es n blank in
-        let k = and_parts (depth_fits d.format (d.depth_less_one + 1))
-        ((not (is_of types 10 d) || is_integer d.format) && align_fits d.align (d.depth_less_one + 1))
-        (kept_at (deep types) Depth [] es a n q) in
-        let i = align_small d.align (d.depth_less_one + 1)
-        (and_parts (not (is_of types 10 d) || is_integer d.format) (align_fits d.align (d.depth_less_one + 1)) k.1).1 in
+        let k = kept_at (deep types) Depth [] es a n q in
+        let i = align_small d.align (d.depth_less_one + 1) (grind (arith, nat_tests)) in
         record {
-          deep = depth_small d.format (d.depth_less_one + 1) k.0;
+          deep = depth_small d.format (d.depth_less_one + 1) (grind (arith, nat_tests));
           align = i.0;
           in_word = i.1;
           in_block = λ z. block_held l.packing.block l.packing.flags es b.1 z n q;

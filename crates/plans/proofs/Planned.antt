@@ -1,17 +1,15 @@
 -- The lines of an accepted layout fit together.
-use Rattle.std.proofs.Common.{◌≡◌, ℕ, zero, suc, ◌+◌, ◌*◌, ◌/◌, ◌<◌, ◌≤◌, Bool, true, false, cond, not, ◌&&◌, ◌||◌, eqb, leb, ◌≢◌, List, [], ◌∷◌, map, length, get_or, take, drop, sym, refl, ap, ◌∙◌, subst, inl, inr, div-one, arith, length-drop, length-take}
+use Rattle.std.proofs.Common.{◌≡◌, ℕ, zero, suc, ◌+◌, ◌*◌, ◌/◌, ◌<◌, ◌≤◌, true, false, cond, eqb, leb, ◌≢◌, List, [], ◌∷◌, map, length, get_or, take, drop, sym, refl, ap, ◌∙◌, subst, div-one, arith, length-drop, length-take}
 use mathlib.Core.List.{map-map}
 use lib.ListN.{length-map}
 use Rattle.std.specs.List.{AllByRecursion, list_all}
 use Rattle.std.proofs.lemmas.List.{get_or-take, get_or-drop, get_or-map, take-map, drop-map}
 use Rattle.std.proofs.ByRecursion.{All-from_get_or, All-map, All-take, All-drop}
-use Rattle.std.proofs.lemmas.Bool.{and_parts, or_cases, eqb-true, eq-eqb, leb-true, not-true, both_ways, cases_order}
 use Rattle.std.proofs.lemmas.Bool.Decides.{nat_tests}
-use Rattle.choices.specs.Choices.{format_number, across_of}
 use Rattle.choices.specs.declared.choice.Interleave.{Interleave}
 use Rattle.choices.specs.declared.choice.Interleave.TheVariants.{Component, Pixel, Mixed, Row, TileComponent, MultiY}
 use Rattle.choices.specs.declared.choice.Sampling.{Sampling}
-use Rattle.choices.specs.declared.choice.Sampling.TheVariants.{Full, Yuv422, Yuv420, Yuv411}
+use Rattle.choices.specs.declared.choice.Sampling.TheVariants.{Full}
 use Rattle.choices.specs.declared.flags.Flags.{Flags}
 use Rattle.configuration.specs.Entries.{blank}
 use Rattle.configuration.specs.declared.entry.Entry.{Entry as Listed}
@@ -19,14 +17,14 @@ use Rattle.configuration.specs.declared.listing.Sizes.{Sizes}
 use Rattle.rules.specs.Entries.{Types, is_multi_y}
 use Rattle.rules.specs.Interleaving.{goes_with, yuv, is_yuv, list_fits, is_interleaved}
 use Rattle.rules.specs.Interleaving as interleaving
-use Rattle.rules.specs.Packing.{cell_of as listed_cell, sized, is_pixel, pixel_bytes, whole_blocks, pixel_fits}
+use Rattle.rules.specs.Packing.{cell_of as listed_cell, sized, is_pixel, pixel_bytes}
 use Rattle.placement.specs.Grid.{EvenRows}
 use Rattle.placement.specs.Line.{run_bytes, Holds, CycleFits}
 use Rattle.placement.specs.Line as line
 use Rattle.placement.specs.Pack.{Cell, packed_end, Blocks, block_of, held, blocks_end}
 use Rattle.placement.specs.Place.{Slot, Strip, no_slot, no_strip, grid, strip, cells, Alike, PlanFits}
 use Rattle.plans.specs.Cells.{cell_of, slot_of, packing_of}
-use Rattle.plans.specs.Entries.{is_chroma, rows_of, entry_for, no_entry}
+use Rattle.plans.specs.Entries.{rows_of, entry_for, no_entry}
 use Rattle.plans.specs.Fit.{Small}
 use Rattle.plans.specs.Views.{View, alone, strips_by, plan_of, packing_for}
 use Rattle.plans.specs.declared.entry.Entry.{Entry}
@@ -220,7 +218,7 @@ module _ (types : Types) (s : Sampling) (block : ℕ) (f : Flags) (z : Sizes) (e
   row_even r g l =
       ap (λ (x : Strip). x.rows) (alone_at Row g l)
       ∙ ap (λ (n : ℕ). n / (z.tile_rows_less_one + 1))
-      (full_rows s (and_parts (goes_with s Row) (interleaving.is_full s || (yuv types es && list_fits types s Row es)) r.interleaved).0 (entry (get_or es g blank)).component_type)
+      (full_rows s (let i = r.interleaved in grind (arith, nat_tests)) (entry (get_or es g blank)).component_type)
 
   even : (v : Interleave) → Rules types s v block z es w h → EvenRows (grid (plan_of (view v)))
   even Component r e g l = let no : ◌≡◌ {A = ℕ} 0 1 = cc in absurd (omega arith)

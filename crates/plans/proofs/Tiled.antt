@@ -1,22 +1,20 @@
 -- The grid of each entry is its component's part of a tile, for all tiles.
-use Rattle.std.proofs.Common.{◌≡◌, ℕ, zero, suc, ◌+◌, ◌*◌, ◌/◌, ◌%◌, ◌<◌, Bool, true, false, cond, not, ◌&&◌, ◌||◌, eqb, ◌≢◌, ◌⊎◌, List, [], ◌∷◌, map, length, get_or, Some, None, Option, sym, refl, ap, ◌∙◌, subst, inl, inr, mul_assoc, mul_comm, zero-add, mul-one, div-one, arith}
+use Rattle.std.proofs.Common.{◌≡◌, ℕ, zero, suc, ◌+◌, ◌*◌, ◌/◌, ◌%◌, ◌<◌, Bool, true, false, cond, not, ◌&&◌, ◌≢◌, ◌⊎◌, List, [], ◌∷◌, map, length, get_or, Some, None, Option, sym, refl, ap, ◌∙◌, subst, inl, inr, mul_assoc, mul_comm, mul-one, div-one, arith}
 use native.Mathlib.Nat.{div-add-mod, div-eq_of_eq-mul_left, div-eq_of_eq-mul_right}
 use lib.ListN.{length-map}
 use Rattle.std.specs.List.{list_all}
-use Rattle.std.proofs.lemmas.Bool.{and_parts, or_cases, eqb-true, eq-eqb, ne_eqb, not-true, both_ways, cases_order, cases_Bool}
+use Rattle.std.proofs.lemmas.Bool.{eq-eqb, ne_eqb, both_ways, cases_order, cases_Bool}
 use Rattle.std.proofs.lemmas.Bool.Decides.{nat_tests}
 use Rattle.choices.specs.Choices.{across_of, down_of}
 use Rattle.choices.specs.declared.choice.Interleave.{Interleave}
 use Rattle.choices.specs.declared.choice.Interleave.TheVariants.{Component, Pixel, Mixed, Row, TileComponent, MultiY}
 use Rattle.choices.specs.declared.choice.Sampling.{Sampling}
-use Rattle.choices.specs.declared.choice.Sampling.TheVariants.{Full, Yuv422, Yuv420, Yuv411}
 use Rattle.choices.specs.declared.flags.Flags.{Flags}
 use Rattle.configuration.specs.Entries.{blank}
 use Rattle.configuration.specs.declared.entry.Entry.{Entry as Listed}
 use Rattle.configuration.specs.declared.listing.Sizes.{Sizes}
 use Rattle.rules.specs.Entries.{Types, is_number, is_of, is_multi_y}
-use Rattle.rules.specs.Interleaving.{goes_with, same_of, one_index_of, yuv, is_yuv, is_full, list_fits}
-use Rattle.rules.specs.Interleaving as interleaving
+use Rattle.rules.specs.Interleaving.{goes_with, same_of, one_index_of, yuv, is_yuv}
 use Rattle.rules.specs.Tiles.{divides, tiles_fit}
 use Rattle.placement.specs.Place.{Slot, Strip, no_slot, no_strip, times, nth, strip_with, strip, PlanFits}
 use Rattle.placement.proofs.Places.{nth_below, nth_is}
@@ -209,7 +207,7 @@ module _ (types : Types) (s : Sampling) (block : ℕ) (f : Flags) (z : Sizes) (e
       → Spot (together (map settled es) (w / T) (h / R) ∷ []) T R (settled (at n))
   pixel_spot r n l =
       let d = sides s z w h r.tiles in
-      let k = pixel_full s (and_parts (goes_with s Pixel) (is_full s || (yuv types es && list_fits types s Pixel es)) r.interleaved).0 in
+      let k = pixel_full s (let i = r.interleaved in grind (arith, nat_tests)) in
       together-spot (w / T) (h / R) n l
       (full_side (is_chroma (settled (at n)).component_type) w (across_of s) k.0 ∙ whole w T d.0.tiles
       ∙ ap (λ (x : ℕ). T * x) (sym (mul-one (w / T))
@@ -288,11 +286,9 @@ module _ (types : Types) (s : Sampling) (block : ℕ) (f : Flags) (z : Sizes) (e
   luma_often : Rules types s MultiY block z es w h → yuv types es ≡ true → list_all (is_yuv types) es ≡ true → length es ≡ 2 + across_of s
       → (n : ℕ) → n < length es → is_of types 1 (at n) ≡ true → times (at n).index (map slot_of (map settled es)) ≡ across_of s
   luma_often r q all len n l i =
-      let p1 = and_parts (one_index_of types 1 es) (one_index_of types 2 es && one_index_of types 3 es) q in
-      let p2 = and_parts (one_index_of types 2 es) (one_index_of types 3 es) p1.1 in
-      let y = kind_of 1 p1.0 in
-      let a = kind_of 2 p2.0 in
-      let b = kind_of 3 p2.1 in
+      let y = kind_of 1 (grind (arith, nat_tests)) in
+      let a = kind_of 2 (grind (arith, nat_tests)) in
+      let b = kind_of 3 (grind (arith, nat_tests)) in
       let sum = times-three (at y.place).index (at a.place).index (at b.place).index
       (kinds_apart 1 2 (λ e. absurd (omega arith)) y.place a.place y.kind a.kind)
       (kinds_apart 1 3 (λ e. absurd (omega arith)) y.place b.place y.kind b.kind)
@@ -320,8 +316,8 @@ module _ (types : Types) (s : Sampling) (block : ℕ) (f : Flags) (z : Sizes) (e
   many_spot r n l =
       let k = unfull types s MultiY es r.interleaved refl in
       let m = many_sides s k.0 in
-      let fits = and_parts (eqb (length es) (2 + across_of s)) (list_all (is_yuv types) es && list_all (λ x. list_all (interleaving.alike x) es) es) k.2 in
-      let all = (and_parts (list_all (is_yuv types) es) (list_all (λ x. list_all (interleaving.alike x) es) es) fits.1).0 in
+      let count : length es ≡ 2 + across_of s = grind (arith, nat_tests) in
+      let all : list_all (is_yuv types) es ≡ true = grind (arith, nat_tests) in
       let d = sides s z w h r.tiles in
       let rows : (settled (at n)).rows ≡ R * (h / R) =
       full_side (is_chroma (settled (at n)).component_type) h (down_of s) m.1 ∙ whole h R d.1.tiles in
@@ -333,7 +329,7 @@ module _ (types : Types) (s : Sampling) (block : ℕ) (f : Flags) (z : Sizes) (e
       elim (yuv-cases n (each_at (is_yuv types) es all n l)) [
         | inl i ↦ together-spot (w / T / across_of s) (h / R) n l
             ((luma_grid n i).0 ∙ whole w T d.0.tiles ∙ ap (λ (x : ℕ). T * x) (group
-            ∙ ap (λ (x : ℕ). w / T / across_of s * x) (sym (luma_often r k.1 all (eqb-true (length es) (2 + across_of s) fits.0) n l i))))
+            ∙ ap (λ (x : ℕ). w / T / across_of s * x) (sym (luma_often r k.1 all count n l i))))
             rows
         | inr o ↦ together-spot (w / T / across_of s) (h / R) n l
             ((chroma_grid n o).0 ∙ chroma ∙ ap (λ (x : ℕ). T * (w / T / across_of s * x)) (sym (part n l o)))
@@ -356,18 +352,18 @@ module _ (types : Types) (s : Sampling) (block : ℕ) (f : Flags) (z : Sizes) (e
   three_of : Rules types s Mixed block z es w h → Three
   three_of r =
       let k = unfull types s Mixed es r.interleaved refl in
-      let fits = and_parts (eqb (length es) 3) (list_all (is_yuv types) es && is_of types 1 (at 0)) k.2 in
-      let all = and_parts (list_all (is_yuv types) es) (is_of types 1 (at 0)) fits.1 in
-      let y = kind_of 1 (and_parts (one_index_of types 1 es) (one_index_of types 2 es && one_index_of types 3 es) k.1).0 in
+      let all : list_all (is_yuv types) es ≡ true = grind (arith, nat_tests) in
+      let luma : is_of types 1 (at 0) ≡ true = grind (arith, nat_tests) in
+      let y = kind_of 1 (grind (arith, nat_tests)) in
       record {
-        count = eqb-true (length es) 3 fits.0;
-        luma = all.1;
+        count = grind (arith, nat_tests);
+        luma = luma;
         chroma = λ m l.
-            elim (yuv-cases (suc m) (each_at (is_yuv types) es all.0 (suc m) l)) [
+            elim (yuv-cases (suc m) (each_at (is_yuv types) es all (suc m) l)) [
               | inl i ↦ absurd (omega (
                 arith,
                 own types s block f z es w h Mixed refl r 0 (suc m) (omega arith) l
-                    (y.only 0 (omega arith) all.1 ∙ sym (y.only (suc m) l i)),
+                    (y.only 0 (omega arith) luma ∙ sym (y.only (suc m) l i)),
               ))
               | inr o ↦ o
             ];
