@@ -5,6 +5,7 @@ use lib.Arith.{digits_lt}
 use lib.Pow.{high, low, mod-mod-pow, field}
 use lib.Seq.{set_out}
 use Rattle.std.proofs.lemmas.Bool.{cases_order, cases_lt, cases_eq}
+use Rattle.placement.proofs.Again.{find}
 use Rattle.bitfields.specs.Field.{bit, with_bit, bit_at, set_bit, Field, spelled, putting, put, Bytes, Distinct, Outside, FieldLaws}
 
 pub bit_below : (n k : ℕ) → bit n k < 2
@@ -196,28 +197,13 @@ bytes_same a b h l e f =
         e2 : 7 - (8 * k + (7 - j)) % 8 ≡ j
         e2 = omega arith
 
--- whether a bit is one of the first n of the field
-among : (spots : ℕ → ℕ) (q n : ℕ) → ((i : ℕ) × (i < n) × (spots i ≡ q)) ⊎ ((i : ℕ) → i < n → spots i ≢ q)
-among spots q zero = inr (λ i h. absurd (omega arith))
-among spots q (suc n) = go (cases_eq (spots n) q) (among spots q n)
-  where
-    go : (spots n ≡ q) ⊎ (spots n ≡ q → ⊥) → ((i : ℕ) × (i < n) × (spots i ≡ q)) ⊎ ((i : ℕ) → i < n → spots i ≢ q)
-        → ((i : ℕ) × (i < suc n) × (spots i ≡ q)) ⊎ ((i : ℕ) → i < suc n → spots i ≢ q)
-    go (inl e) ih = inl (n, omega arith, e)
-    go (inr d) (inl x) = inl (x.0, omega (arith, x.1), x.2)
-    go (inr d) (inr f) = inr (λ i h. last i h (cases_eq i n))
-      where
-        last : (i : ℕ) → i < suc n → (i ≡ n) ⊎ (i ≡ n → ⊥) → spots i ≢ q
-        last i h (inl e) = subst (λ (m : ℕ). spots m ≢ q) (sym e) d
-        last i h (inr z) = f i (omega arith)
-
 pub put_only : (x : Field) (code : ℕ) (bytes r : List ℕ) → Distinct x (length bytes) → Bytes bytes → Bytes r → length r ≡ length bytes
     → ((i : ℕ) → i < x.depth → bit_at r (x.spots i) ≡ bit code (x.depth - 1 - i))
     → ((q : ℕ) → Outside x q → bit_at r q ≡ bit_at bytes q)
     → r ≡ put x code bytes
 put_only x code bytes r d a b e inside outside =
     bytes_same r (put x code bytes) b (bytes_putting x code x.depth bytes a) (e ∙ sym (length-putting x code x.depth bytes))
-    (λ q l. go q (among x.spots q x.depth))
+    (λ q l. go q (find x.spots q x.depth))
   where
     go : (q : ℕ) → ((i : ℕ) × (i < x.depth) × (x.spots i ≡ q)) ⊎ ((i : ℕ) → i < x.depth → x.spots i ≢ q) → bit_at r q ≡ bit_at (put x code bytes) q
     go q (inl z) =

@@ -2,6 +2,7 @@
 use Rattle.std.proofs.Common.{◌≡◌, ℕ, zero, suc, ◌+◌, ◌-◌, ◌*◌, ◌/◌, ◌%◌, ◌^◌, ◌<◌, ◌≤◌, Bool, true, false, cond, ◌⊎◌, List, get_or, sym, ap, ◌∙◌, subst, inl, inr, mod-lt, div-one, arith, pow_pos, pow-add, shr-shr}
 use lib.Arith.{digits_lt}
 use Rattle.std.proofs.lemmas.Bool.{cases_lt}
+use Rattle.std.proofs.lemmas.Bool.Decides.{nat_tests}
 use Rattle.placement.specs.Word.{Word, spot, weight, byte_in}
 use Rattle.bitfields.specs.Field.{Bytes, bit, bit_at, spelled}
 use Rattle.bitfields.specs.Reading.{big_number, little_number, word_number, ReadingLaws}
@@ -116,11 +117,7 @@ little_below bytes a zero f = omega arith
 little_below bytes a (suc n) f = one_more (little_number bytes (f + 1) n) (get_or bytes f 0) n (little_below bytes a n (f + 1)) (a f)
 
 pub number_below : (w : Word) (bytes : List ℕ) → Bytes bytes → word_number bytes w < 2 ^ (8 * w.size)
-number_below w bytes a = go w.little
-  where
-    go : (l : Bool) → cond l (little_number bytes w.first w.size) (big_number bytes w.first w.size) < 2 ^ (8 * w.size)
-    go true = little_below bytes a w.size w.first
-    go false = big_below bytes a w.first w.size
+number_below w bytes a = grind (arith, nat_tests, little_below bytes a w.size w.first, big_below bytes a w.first w.size)
 
 pub reading_laws : ReadingLaws
 reading_laws = record {

@@ -4,6 +4,7 @@ use lib.Arith.{digits_lt}
 use lib.Pow.{high, low}
 use lib.Seq.{set_out}
 use Rattle.std.proofs.lemmas.Bool.{cases_eq, cases_lt}
+use Rattle.std.proofs.lemmas.Bool.Decides.{nat_tests}
 use Rattle.placement.specs.Word.{Word, Whole, spot, weight, byte_in}
 use Rattle.bitfields.specs.Field.{Bytes, bit, bit_at, put}
 use Rattle.bitfields.specs.Reading.{word_number, field_in}
@@ -58,44 +59,25 @@ byte_in_low : (w : Word) (k : ℕ) → k < 8 * w.size → w.first ≤ byte_in w 
 byte_in_low w k h = omega arith
 
 byte_in-high : (w : Word) (k : ℕ) → k < 8 * w.size → byte_in w k < w.first + w.size
-byte_in-high w k h = go w.little
-  where
-    go : (l : Bool) → w.first + cond l (k / 8) (w.size - 1 - k / 8) < w.first + w.size
-    go true = omega arith
-    go false = omega arith
+byte_in-high w k h = grind (arith, nat_tests)
 
 byte_in_own : (w : Word) (k j : ℕ) → k < 8 * w.size → j < 8 * w.size → byte_in w k ≡ byte_in w j → k / 8 ≡ j / 8
-byte_in_own w k j h l e = go w.little e
-  where
-    go : (t : Bool) → w.first + cond t (k / 8) (w.size - 1 - k / 8) ≡ w.first + cond t (j / 8) (w.size - 1 - j / 8) → k / 8 ≡ j / 8
-    go true e = omega arith
-    go false e = omega arith
+byte_in_own w k j h l e = grind (arith, nat_tests)
 
 byte_in_same : (w : Word) (k j : ℕ) → k / 8 ≡ j / 8 → byte_in w k ≡ byte_in w j
 byte_in_same w k j e = ap (λ (x : ℕ). w.first + cond w.little x (w.size - 1 - x)) e
 
 -- each byte from `first` on is the byte of some weight
-weight_at : Word → ℕ → ℕ
+abbrev weight_at : Word → ℕ → ℕ
 weight_at w b = 8 * cond w.little (b - w.first) (w.size - 1 - (b - w.first))
 
 weight_at_below : (w : Word) (b : ℕ) → w.first ≤ b → b < w.first + w.size → weight_at w b + 7 < 8 * w.size
-unfolding weight_at
-weight_at_below w b h l = go w.little
-  where
-    go : (t : Bool) → 8 * cond t (b - w.first) (w.size - 1 - (b - w.first)) + 7 < 8 * w.size
-    go true = omega arith
-    go false = omega arith
+weight_at_below w b h l = grind (arith, nat_tests)
 
 weight_at_is : (w : Word) (b k : ℕ) → w.first ≤ b → b < w.first + w.size → k < 8 → byte_in w (weight_at w b + k) ≡ b
-unfolding weight_at
-weight_at_is w b k h l g = go w.little
-  where
-    go : (t : Bool) → w.first + cond t ((8 * cond t (b - w.first) (w.size - 1 - (b - w.first)) + k) / 8) (w.size - 1 - (8 * cond t (b - w.first) (w.size - 1 - (b - w.first)) + k) / 8) ≡ b
-    go true = omega arith
-    go false = omega arith
+weight_at_is w b k h l g = grind (arith, nat_tests)
 
 weight_at_mod : (w : Word) (b k : ℕ) → k < 8 → (weight_at w b + k) % 8 ≡ k
-unfolding weight_at
 weight_at_mod w b k h = omega arith
 
 length-stored : (bytes : List ℕ) (w : Word) (v n : ℕ) → length (stored bytes w v n) ≡ length bytes

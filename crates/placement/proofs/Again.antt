@@ -88,7 +88,7 @@ module _ (b : Blocks) (cycle : List Cell) (i n : ℕ) (same : held_at b cycle (i
       g x y = omega arith
 
 -- m + 1 numbers below m: two of them are equal
-find : (f : ℕ → ℕ) (v n : ℕ) → ((i : ℕ) × (i < n) × (f i ≡ v)) ⊎ ((i : ℕ) → i < n → f i ≢ v)
+pub find : (f : ℕ → ℕ) (v n : ℕ) → ((i : ℕ) × (i < n) × (f i ≡ v)) ⊎ ((i : ℕ) → i < n → f i ≢ v)
 find f v zero = inr (λ i h e. omega arith)
 find f v (suc n) = go (find f v n) (cases_eq (f n) v)
   where
