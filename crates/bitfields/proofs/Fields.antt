@@ -2,14 +2,12 @@
 use Rattle.std.proofs.Common.{◌≡◌, ℕ, zero, suc, ◌+◌, ◌-◌, ◌*◌, ◌/◌, ◌%◌, ◌^◌, ◌<◌, ◌≤◌, ◌≢◌, ◌⊎◌, List, length, get_or, sym, refl, ap, ◌∙◌, subst, inl, inr, mod-lt, div-one, arith, length-set, get_or-set_other, get_or-set_same, ext_get_or, pow_pos, pow-add, shr-shr, shr_lt}
 use native.Mathlib.Nat.{div-eq_of_lt}
 use lib.Arith.{digits_lt}
-use lib.Pow.{high, low, mod-mod-pow, field}
 use lib.Seq.{set_out}
 use Rattle.std.proofs.lemmas.Bool.{cases_order, cases_lt, cases_eq}
+use Rattle.std.proofs.lemmas.Nat.Bits.{bit_at-lt, same_from_bits_below, bit_at_cat_low, bit_at_cat_high}
+use Rattle.std.proofs.lemmas.Nat.{shr_split}
 use Rattle.placement.proofs.Again.{find}
 use Rattle.bitfields.specs.Field.{bit, with_bit, bit_at, set_bit, Field, spelled, putting, put, Bytes, Distinct, Outside, FieldLaws}
-
-pub bit_below : (n k : ℕ) → bit n k < 2
-bit_below n k = omega arith
 
 pub low_rest : (n k : ℕ) → n % 2 ^ k < 2 ^ k
 low_rest n k = mod-lt n (pow_pos k)
@@ -18,34 +16,21 @@ low_rest n k = mod-lt n (pow_pos k)
 low_part : (n k b : ℕ) → b < 2 → b * 2 ^ k + n % 2 ^ k < 2 ^ (k + 1)
 low_part n k b h = omega (arith, digits_lt h (low_rest n k), pow-add 2 k 1)
 
-with_split : (n k b : ℕ) → with_bit n k b ≡ (n / 2 ^ (k + 1) * 2 + b) * 2 ^ k + n % 2 ^ k
-with_split n k b =
-    ap (λ (x : ℕ). n / 2 ^ (k + 1) * x + (b * 2 ^ k + n % 2 ^ k)) (pow-add 2 k 1) ∙ regroup (n / 2 ^ (k + 1)) (2 ^ k) b (n % 2 ^ k)
-  where
-    regroup : (a c d r : ℕ) → a * (c * 2) + (d * c + r) ≡ (a * 2 + d) * c + r
-    regroup a c d r = omega arith
-
 bit_with_same : (n k b : ℕ) → b < 2 → bit (with_bit n k b) k ≡ b
 bit_with_same n k b h =
-    ap (λ (x : ℕ). x / 2 ^ k % 2) (with_split n k b) ∙ ap (λ (x : ℕ). x % 2) (high (n / 2 ^ (k + 1) * 2 + b) k (low_rest n k)) ∙ last (n / 2 ^ (k + 1))
+    bit_at_cat_low (n / 2 ^ (k + 1)) (k + 1) (b * 2 ^ k + n % 2 ^ k) k (omega arith)
+    ∙ bit_at_cat_high b k (n % 2 ^ k) k (low_rest n k) (omega arith) ∙ ap (bit b) e ∙ omega arith
   where
-    last : (a : ℕ) → (a * 2 + b) % 2 ≡ b
-    last a = omega arith
+    e : k - k ≡ 0
+    e = omega arith
 
 -- bits below k are those of the remainder
 pub bit_low : (n k j : ℕ) → j < k → bit n j ≡ bit (n % 2 ^ k) j
-bit_low n k j h =
-    sym (field n 1 j) ∙ ap (λ (x : ℕ). x / 2 ^ j) (sym (mod-mod-pow n (k - (1 + j)) (1 + j)) ∙ ap (λ (x : ℕ). n % 2 ^ x % 2 ^ (1 + j)) e) ∙ field (n % 2 ^ k) 1 j
-  where
-    e : k - (1 + j) + (1 + j) ≡ k
-    e = omega arith
+bit_low n k j h = ap (λ (x : ℕ). bit x j) (sym (shr_split n k)) ∙ bit_at_cat_low (n / 2 ^ k) k (n % 2 ^ k) j h
 
--- bits above k are those of the quotient
-pub bit_high : (n k j : ℕ) → k < j → bit n j ≡ bit (n / 2 ^ (k + 1)) (j - (k + 1))
-bit_high n k j h = ap (λ (x : ℕ). n / 2 ^ x % 2) e ∙ ap (λ (x : ℕ). x % 2) (sym (shr-shr n (k + 1) (j - (k + 1))))
-  where
-    e : j ≡ k + 1 + (j - (k + 1))
-    e = omega arith
+-- bits from m up are those of the quotient
+pub bit_shift : (n m k : ℕ) → m ≤ k → bit n k ≡ bit (n / 2 ^ m) (k - m)
+bit_shift n m k h = ap (λ (x : ℕ). bit x k) (sym (shr_split n m)) ∙ bit_at_cat_high (n / 2 ^ m) m (n % 2 ^ m) k (low_rest n m) h
 
 bit_with_other : (n k b j : ℕ) → b < 2 → j ≢ k → bit (with_bit n k b) j ≡ bit n j
 bit_with_other n k b j h ne = go (cases_order j k)
@@ -53,13 +38,11 @@ bit_with_other n k b j h ne = go (cases_order j k)
     go : (j ≡ k) ⊎ ((j < k) ⊎ (k < j)) → bit (with_bit n k b) j ≡ bit n j
     go (inl e) = absurd (ne e)
     go (inr (inl l)) =
-        bit_low (with_bit n k b) k j l
-        ∙ ap (λ (x : ℕ). bit x j) (ap (λ (x : ℕ). x % 2 ^ k) (with_split n k b) ∙ low (n / 2 ^ (k + 1) * 2 + b) k (low_rest n k))
-        ∙ sym (bit_low n k j l)
+        bit_at_cat_low (n / 2 ^ (k + 1)) (k + 1) (b * 2 ^ k + n % 2 ^ k) j (omega arith)
+        ∙ bit_at_cat_low b k (n % 2 ^ k) j l ∙ sym (bit_low n k j l)
     go (inr (inr l)) =
-        bit_high (with_bit n k b) k j l
-        ∙ ap (λ (x : ℕ). bit x (j - (k + 1))) (high (n / 2 ^ (k + 1)) (k + 1) (low_part n k b h))
-        ∙ sym (bit_high n k j l)
+        bit_at_cat_high (n / 2 ^ (k + 1)) (k + 1) (b * 2 ^ k + n % 2 ^ k) j (low_part n k b h) (omega arith)
+        ∙ sym (bit_shift n (k + 1) j (omega arith))
 
 with_below : (n k b : ℕ) → b < 2 → k < 8 → n < 256 → with_bit n k b < 256
 with_below n k b h l g =
@@ -107,7 +90,7 @@ pub putting-outside : (x : Field) (code n : ℕ) (bytes : List ℕ) (q : ℕ) �
     → bit_at (putting x code n bytes) q ≡ bit_at bytes q
 putting-outside x code zero bytes q f = refl
 putting-outside x code (suc n) bytes q f =
-    bit_at-set_other (putting x code n bytes) (x.spots n) _ q (bit_below code (x.depth - 1 - n)) (f n (omega arith))
+    bit_at-set_other (putting x code n bytes) (x.spots n) _ q (bit_at-lt code (x.depth - 1 - n)) (f n (omega arith))
     ∙ putting-outside x code n bytes q (λ i h. f i (omega arith))
 
 pub putting_inside : (x : Field) (code n : ℕ) (bytes : List ℕ) → Distinct x (length bytes) → n ≤ x.depth
@@ -119,10 +102,10 @@ putting_inside x code (suc n) bytes d h i l = go (cases_eq i n) (putting_inside 
         → bit_at (putting x code (suc n) bytes) (x.spots i) ≡ bit code (x.depth - 1 - i)
     go (inl e) ih =
         ap (λ (m : ℕ). bit_at (putting x code (suc n) bytes) (x.spots m)) e
-        ∙ bit_at-set_same (putting x code n bytes) (x.spots n) _ (omega (arith, length-putting x code n bytes, d.within n (omega arith))) (bit_below code (x.depth - 1 - n))
+        ∙ bit_at-set_same (putting x code n bytes) (x.spots n) _ (omega (arith, length-putting x code n bytes, d.within n (omega arith))) (bit_at-lt code (x.depth - 1 - n))
         ∙ ap (λ (m : ℕ). bit code (x.depth - 1 - m)) (sym e)
     go (inr e) ih =
-        bit_at-set_other (putting x code n bytes) (x.spots n) _ (x.spots i) (bit_below code (x.depth - 1 - n))
+        bit_at-set_other (putting x code n bytes) (x.spots n) _ (x.spots i) (bit_at-lt code (x.depth - 1 - n))
         (λ s. e (d.own i n (omega arith) (omega arith) (sym s)))
         ∙ ih (omega arith)
 
@@ -164,7 +147,7 @@ spelled_below f (suc n) h = omega (arith, spelled_below f n h, h n)
 pub bytes_putting : (x : Field) (code n : ℕ) (bytes : List ℕ) → Bytes bytes → Bytes (putting x code n bytes)
 bytes_putting x code zero bytes f k = f k
 bytes_putting x code (suc n) bytes f k =
-    bytes_set (putting x code n bytes) (x.spots n) _ (bit_below code (x.depth - 1 - n)) (bytes_putting x code n bytes f) k
+    bytes_set (putting x code n bytes) (x.spots n) _ (bit_at-lt code (x.depth - 1 - n)) (bytes_putting x code n bytes f) k
 
 -- a byte in which the field has no bit
 putting-byte : (x : Field) (code n : ℕ) (bytes : List ℕ) (k : ℕ) → ((i : ℕ) → i < n → x.spots i / 8 ≢ k)
@@ -174,16 +157,9 @@ putting-byte x code (suc n) bytes k f =
     get_or-set_other (putting x code n bytes) (x.spots n / 8) k _ 0 (λ e. f n (omega arith) (sym e))
     ∙ putting-byte x code n bytes k (λ i h. f i (omega arith))
 
--- a byte is its bits
-byte_same : (a b : ℕ) → a < 256 → b < 256 → ((k : ℕ) → k < 8 → bit a k ≡ bit b k) → a ≡ b
-byte_same a b h l f =
-    sym (div-one a) ∙ sym (spelled_code a 8 0 h)
-    ∙ spelled_same (λ i. bit a (0 + 8 - 1 - i)) (λ i. bit b (0 + 8 - 1 - i)) 8 (λ i g. f (0 + 8 - 1 - i) (omega arith))
-    ∙ spelled_code b 8 0 l ∙ div-one b
-
 pub bytes_same : (a b : List ℕ) → Bytes a → Bytes b → length a ≡ length b → ((q : ℕ) → q < 8 * length a → bit_at a q ≡ bit_at b q) → a ≡ b
 bytes_same a b h l e f =
-    ext_get_or 0 a b e (λ k g. byte_same (get_or a k 0) (get_or b k 0) (h k) (l k) (λ j m. one k j g m))
+    ext_get_or 0 a b e (λ k g. same_from_bits_below 8 (get_or a k 0) (get_or b k 0) (h k) (l k) (λ j m. one k j g m))
   where
     one : (k j : ℕ) → k < length a → j < 8 → bit (get_or a k 0) j ≡ bit (get_or b k 0) j
     one k j g m =
@@ -225,7 +201,7 @@ field_laws = record {
   byte-put_other = λ x code bytes k f. putting-byte x code x.depth bytes k f;
   bytes_put = λ x code bytes f k. bytes_putting x code x.depth bytes f k;
   put_only = put_only;
-  spell_below = λ x bytes. spelled_below (λ i. bit_at bytes (x.spots i)) x.depth (λ i. bit_below (get_or bytes (x.spots i / 8) 0) (7 - x.spots i % 8));
+  spell_below = λ x bytes. spelled_below (λ i. bit_at bytes (x.spots i)) x.depth (λ i. bit_at-lt (get_or bytes (x.spots i / 8) 0) (7 - x.spots i % 8));
 }
   where
     none : (d : ℕ) → d ≡ 0 + d

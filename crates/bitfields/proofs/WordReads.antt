@@ -1,26 +1,21 @@
 -- A field that lies in a word is read from the number of the word's bytes.
-use Rattle.std.proofs.Common.{◌≡◌, ℕ, zero, suc, ◌+◌, ◌-◌, ◌*◌, ◌/◌, ◌%◌, ◌^◌, ◌<◌, ◌≤◌, Bool, true, false, cond, ◌⊎◌, List, get_or, sym, ap, ◌∙◌, subst, inl, inr, mod-lt, div-one, arith, pow_pos, pow-add, shr-shr}
+use Rattle.std.proofs.Common.{◌≡◌, ℕ, zero, suc, ◌+◌, ◌-◌, ◌*◌, ◌/◌, ◌%◌, ◌^◌, ◌<◌, ◌≤◌, Bool, true, false, cond, ◌⊎◌, List, get_or, sym, ap, ◌∙◌, subst, inl, inr, mod-lt, div-one, mul_comm, arith, pow_pos, pow-add, shr-shr}
 use lib.Arith.{digits_lt}
 use Rattle.std.proofs.lemmas.Bool.{cases_lt}
 use Rattle.std.proofs.lemmas.Bool.Decides.{nat_tests}
+use Rattle.std.proofs.lemmas.Nat.Bits.{bit_at_cat_low, bit_at_cat_high}
 use Rattle.placement.specs.Word.{Word, spot, weight, byte_in}
 use Rattle.bitfields.specs.Field.{Bytes, bit, bit_at, spelled}
 use Rattle.bitfields.specs.Reading.{big_number, little_number, word_number, ReadingLaws}
-use Rattle.bitfields.proofs.Fields.{bit_low, bit_high, spelled_same, spelled_code}
+use Rattle.bitfields.proofs.Fields.{bit_low, spelled_same, spelled_code}
 use Rattle.placement.proofs.Words.{weight_below}
 
 -- the low byte, and what lies above it
 join_low : (v b k : ℕ) → b < 256 → k < 8 → bit (256 * v + b) k ≡ bit b k
-join_low v b k h l = bit_low (256 * v + b) 8 k l ∙ ap (λ (x : ℕ). bit x k) e
-  where
-    e : (256 * v + b) % 2 ^ 8 ≡ b
-    e = omega arith
+join_low v b k h l = ap (λ (x : ℕ). bit (x + b) k) (mul_comm 256 v) ∙ bit_at_cat_low v 8 b k l
 
 join_high : (v b k : ℕ) → b < 256 → 8 ≤ k → bit (256 * v + b) k ≡ bit v (k - 8)
-join_high v b k h l = bit_high (256 * v + b) 7 k (omega arith) ∙ ap (λ (x : ℕ). bit x (k - 8)) e
-  where
-    e : (256 * v + b) / 2 ^ 8 ≡ v
-    e = omega arith
+join_high v b k h l = ap (λ (x : ℕ). bit (x + b) k) (mul_comm 256 v) ∙ bit_at_cat_high v 8 b k h l
 
 big_bit : (bytes : List ℕ) → Bytes bytes → (f n k : ℕ) → k < 8 * n → bit (big_number bytes f n) k ≡ bit (get_or bytes (f + (n - 1 - k / 8)) 0) (k % 8)
 big_bit bytes a f zero k h = absurd (omega arith)

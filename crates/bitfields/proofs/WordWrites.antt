@@ -1,42 +1,31 @@
 -- A field that lies in a word is written by replacing the word's bytes.
-use Rattle.std.proofs.Common.{◌≡◌, ℕ, zero, suc, ◌+◌, ◌-◌, ◌*◌, ◌/◌, ◌%◌, ◌^◌, ◌<◌, ◌≤◌, Bool, true, false, cond, ◌≢◌, ◌⊎◌, List, length, get_or, sym, refl, ap, ◌∙◌, subst, inl, inr, arith, length-set, get_or-set_other, get_or-set_same, pow-add, shr-shr, shr_lt}
+use Rattle.std.proofs.Common.{◌≡◌, ℕ, zero, suc, ◌+◌, ◌-◌, ◌*◌, ◌/◌, ◌%◌, ◌^◌, ◌<◌, ◌≤◌, cond, ◌≢◌, ◌⊎◌, List, length, get_or, sym, refl, ap, ◌∙◌, subst, inl, inr, arith, length-set, get_or-set_other, get_or-set_same, pow-add, shr_lt}
 use lib.Arith.{digits_lt}
-use lib.Pow.{high, low}
 use lib.Seq.{set_out}
 use Rattle.std.proofs.lemmas.Bool.{cases_eq, cases_lt}
 use Rattle.std.proofs.lemmas.Bool.Decides.{nat_tests}
+use Rattle.std.proofs.lemmas.Nat.Bits.{bit_at_cat_low, bit_at_cat_high}
 use Rattle.placement.specs.Word.{Word, Whole, spot, weight, byte_in}
 use Rattle.bitfields.specs.Field.{Bytes, bit, bit_at, put}
 use Rattle.bitfields.specs.Reading.{word_number, field_in}
 use Rattle.bitfields.specs.Writing.{replaced, word_with, stored, WritingLaws}
-use Rattle.bitfields.proofs.Fields.{bit_low, low_rest, put_only}
+use Rattle.bitfields.proofs.Fields.{bit_low, bit_shift, low_rest, put_only}
 use Rattle.placement.proofs.Words.{weight_below, words_stand}
 use Rattle.bitfields.proofs.WordReads.{word-bit, number_below}
 
--- bits from m up are those of the quotient
-bit_shift : (n m k : ℕ) → m ≤ k → bit n k ≡ bit (n / 2 ^ m) (k - m)
-bit_shift n m k h = ap (λ (x : ℕ). n / 2 ^ x % 2) e ∙ ap (λ (x : ℕ). x % 2) (sym (shr-shr n m (k - m)))
-  where
-    e : k ≡ m + (k - m)
-    e = omega arith
-
 module _ (v m d code : ℕ) (c : code < 2 ^ d) where
   replaced_low : (k : ℕ) → k < m → bit (replaced v m d code) k ≡ bit v k
-  replaced_low k h =
-      bit_low (replaced v m d code) m k h ∙ ap (λ (x : ℕ). bit x k) (low (v / 2 ^ (m + d) * 2 ^ d + code) m (low_rest v m)) ∙ sym (bit_low v m k h)
-
-  shifted : replaced v m d code / 2 ^ m ≡ v / 2 ^ (m + d) * 2 ^ d + code
-  shifted = high (v / 2 ^ (m + d) * 2 ^ d + code) m (low_rest v m)
+  replaced_low k h = bit_at_cat_low (v / 2 ^ (m + d) * 2 ^ d + code) m (v % 2 ^ m) k h ∙ sym (bit_low v m k h)
 
   replaced_in : (k : ℕ) → m ≤ k → k < m + d → bit (replaced v m d code) k ≡ bit code (k - m)
   replaced_in k h l =
-      bit_shift (replaced v m d code) m k h ∙ ap (λ (x : ℕ). bit x (k - m)) shifted
-      ∙ bit_low (v / 2 ^ (m + d) * 2 ^ d + code) d (k - m) (omega arith) ∙ ap (λ (x : ℕ). bit x (k - m)) (low (v / 2 ^ (m + d)) d c)
+      bit_at_cat_high (v / 2 ^ (m + d) * 2 ^ d + code) m (v % 2 ^ m) k (low_rest v m) h
+      ∙ bit_at_cat_low (v / 2 ^ (m + d)) d code (k - m) (omega arith)
 
   replaced-high : (k : ℕ) → m + d ≤ k → bit (replaced v m d code) k ≡ bit v k
   replaced-high k h =
-      bit_shift (replaced v m d code) m k (omega arith) ∙ ap (λ (x : ℕ). bit x (k - m)) shifted
-      ∙ bit_shift (v / 2 ^ (m + d) * 2 ^ d + code) d (k - m) (omega arith) ∙ ap (λ (x : ℕ). bit x (k - m - d)) (high (v / 2 ^ (m + d)) d c)
+      bit_at_cat_high (v / 2 ^ (m + d) * 2 ^ d + code) m (v % 2 ^ m) k (low_rest v m) (omega arith)
+      ∙ bit_at_cat_high (v / 2 ^ (m + d)) d code (k - m) c (omega arith)
       ∙ ap (bit (v / 2 ^ (m + d))) e ∙ sym (bit_shift v (m + d) k h)
     where
       e : k - m - d ≡ k - (m + d)
