@@ -1,11 +1,12 @@
 -- Fields of bits: what was put in one is spelled there, and no other bit changes.
-use Rattle.std.proofs.Common.{◌≡◌, ℕ, zero, suc, ◌+◌, ◌-◌, ◌*◌, ◌/◌, ◌%◌, ◌^◌, ◌<◌, ◌≤◌, ◌≢◌, ◌⊎◌, List, length, get_or, sym, refl, ap, ◌∙◌, subst, inl, inr, mod-lt, div-one, arith, length-set, get_or-set_other, get_or-set_same, ext_get_or, pow_pos, pow-add, shr-shr, shr_lt}
+use Rattle.std.proofs.Common.{◌≡◌, ℕ, zero, suc, ◌+◌, ◌-◌, ◌*◌, ◌/◌, ◌%◌, ◌^◌, ◌<◌, ◌≤◌, ◌≢◌, ◌⊎◌, List, length, get_or, set, sym, refl, ap, ◌∙◌, subst, inl, inr, mod-lt, div-one, arith, length-set, get_or-set_other, get_or-set_same, ext_get_or, pow_pos, pow-add, shr-shr, shr_lt}
 use native.Mathlib.Nat.{div-eq_of_lt}
 use lib.Arith.{digits_lt}
 use lib.Seq.{set_out}
 use Rattle.std.proofs.lemmas.Bool.{cases_order, cases_lt, cases_eq}
 use Rattle.std.proofs.lemmas.Nat.Bits.{bit_at-lt, same_from_bits_below, bit_at_cat_low, bit_at_cat_high}
 use Rattle.std.proofs.lemmas.Nat.{shr_split}
+use Rattle.std.proofs.lemmas.Grind.{common_steps}
 use Rattle.placement.proofs.Again.{find}
 use Rattle.bitfields.specs.Field.{bit, with_bit, bit_at, set_bit, Field, spelled, putting, put, Bytes, Distinct, Outside, FieldLaws}
 
@@ -70,15 +71,13 @@ bit_at-set_other bytes q b r l ne = go (cases_eq (r / 8) (q / 8)) (cases_lt (q /
     go (inl e) (inr h) = ap (λ (x : List ℕ). bit_at x r) (set_out bytes (q / 8) _ h)
     go (inr n) h = ap (λ (x : ℕ). bit x (7 - r % 8)) (get_or-set_other bytes (q / 8) (r / 8) _ 0 n)
 
+-- a byte is written among bytes
+pub set_byte : (bytes : List ℕ) (i v : ℕ) → v < 256 → Bytes bytes → Bytes (set bytes i v)
+set_byte bytes i v h f k = grind (arith, common_steps, f k)
+
 bytes_set : (bytes : List ℕ) (q b : ℕ) → b < 2 → Bytes bytes → Bytes (set_bit bytes q b)
-bytes_set bytes q b l f k = go (cases_eq k (q / 8)) (cases_lt (q / 8) (length bytes))
-  where
-    go : (k ≡ q / 8) ⊎ (k ≡ q / 8 → ⊥) → (q / 8 < length bytes) ⊎ (length bytes ≤ q / 8) → get_or (set_bit bytes q b) k 0 < 256
-    go (inl e) (inl h) =
-        subst (λ (x : ℕ). get_or (set_bit bytes q b) x 0 < 256) (sym e)
-        (subst (λ (x : ℕ). x < 256) (sym (get_or-set_same bytes (q / 8) _ 0 h)) (with_below (get_or bytes (q / 8) 0) (7 - q % 8) b l (omega arith) (f (q / 8))))
-    go (inl e) (inr h) = subst (λ (x : List ℕ). get_or x k 0 < 256) (sym (set_out bytes (q / 8) _ h)) (f k)
-    go (inr n) h = subst (λ (x : ℕ). x < 256) (sym (get_or-set_other bytes (q / 8) k _ 0 n)) (f k)
+bytes_set bytes q b l f =
+    set_byte bytes (q / 8) _ (with_below (get_or bytes (q / 8) 0) (7 - q % 8) b l (omega arith) (f (q / 8))) f
 
 -- a field
 

@@ -1,7 +1,6 @@
 -- A field that lies in a word is written by replacing the word's bytes.
 use Rattle.std.proofs.Common.{◌≡◌, ℕ, zero, suc, ◌+◌, ◌-◌, ◌*◌, ◌/◌, ◌%◌, ◌^◌, ◌<◌, ◌≤◌, cond, ◌≢◌, ◌⊎◌, List, length, get_or, sym, refl, ap, ◌∙◌, subst, inl, inr, arith, length-set, get_or-set_other, get_or-set_same, pow-add, shr_lt}
 use lib.Arith.{digits_lt}
-use lib.Seq.{set_out}
 use Rattle.std.proofs.lemmas.Bool.{cases_eq, cases_lt}
 use Rattle.std.proofs.lemmas.Bool.Decides.{nat_tests}
 use Rattle.std.proofs.lemmas.Nat.Bits.{bit_at_cat_low, bit_at_cat_high}
@@ -9,7 +8,7 @@ use Rattle.placement.specs.Word.{Word, Whole, spot, weight, byte_in}
 use Rattle.bitfields.specs.Field.{Bytes, bit, bit_at, put}
 use Rattle.bitfields.specs.Reading.{word_number, field_in}
 use Rattle.bitfields.specs.Writing.{replaced, word_with, stored, WritingLaws}
-use Rattle.bitfields.proofs.Fields.{bit_low, bit_shift, low_rest, put_only}
+use Rattle.bitfields.proofs.Fields.{bit_low, bit_shift, low_rest, set_byte, put_only}
 use Rattle.placement.proofs.Words.{weight_below, words_stand}
 use Rattle.bitfields.proofs.WordReads.{word-bit, number_below}
 
@@ -97,18 +96,8 @@ stored_in bytes w v (suc n) h g j l = go (cases_eq j n) (stored_in bytes w v n (
         eight q = omega arith
 
 bytes_stored : (bytes : List ℕ) (w : Word) (v n : ℕ) → Bytes bytes → Bytes (stored bytes w v n)
-bytes_stored bytes w v zero a k = a k
-bytes_stored bytes w v (suc n) a k = go (cases_eq k (byte_in w (8 * n))) (cases_lt k (length (stored bytes w v n))) (bytes_stored bytes w v n a)
-  where
-    go : (k ≡ byte_in w (8 * n)) ⊎ (k ≡ byte_in w (8 * n) → ⊥) → (k < length (stored bytes w v n)) ⊎ (length (stored bytes w v n) ≤ k) → Bytes (stored bytes w v n)
-        → get_or (stored bytes w v (suc n)) k 0 < 256
-    go (inl e) (inl h) ih =
-        subst (λ (x : ℕ). get_or (stored bytes w v (suc n)) x 0 < 256) (sym e)
-        (subst (λ (x : ℕ). x < 256) (sym (get_or-set_same (stored bytes w v n) (byte_in w (8 * n)) _ 0 (subst (λ (x : ℕ). x < length (stored bytes w v n)) e h)))
-        (omega arith))
-    go (inl e) (inr h) ih =
-        subst (λ (x : List ℕ). get_or x k 0 < 256) (sym (set_out (stored bytes w v n) (byte_in w (8 * n)) _ (subst (λ (x : ℕ). length (stored bytes w v n) ≤ x) e h))) (ih k)
-    go (inr e) h ih = subst (λ (x : ℕ). x < 256) (sym (get_or-set_other (stored bytes w v n) (byte_in w (8 * n)) k _ 0 e)) (ih k)
+bytes_stored bytes w v zero a = a
+bytes_stored bytes w v (suc n) a = set_byte (stored bytes w v n) (byte_in w (8 * n)) _ (omega arith) (bytes_stored bytes w v n a)
 
 -- the bits of a stored word
 stored-bit : (bytes : List ℕ) (w : Word) (v : ℕ) → w.first + w.size ≤ length bytes → (k : ℕ) → k < 8 * w.size
