@@ -2,8 +2,7 @@
 use Rattle.std.proofs.Common.{◌≡◌, ℕ, zero, suc, ◌+◌, ◌-◌, ◌*◌, ◌/◌, ◌%◌, ◌^◌, ◌<◌, ◌≤◌, ◌≢◌, ◌⊎◌, List, length, get_or, set, sym, refl, ap, ◌∙◌, subst, inl, inr, mod-lt, div-one, arith, length-set, get_or-set_other, get_or-set_same, ext_get_or, pow_pos, pow-add, shr-shr, shr_lt}
 use native.Mathlib.Nat.{div-eq_of_lt}
 use lib.Arith.{digits_lt}
-use lib.Seq.{set_out}
-use Rattle.std.proofs.lemmas.Bool.{cases_order, cases_lt, cases_eq}
+use Rattle.std.proofs.lemmas.Bool.{cases_eq}
 use Rattle.std.proofs.lemmas.Nat.Bits.{bit_at-lt, same_from_bits_below, bit_at_cat_low, bit_at_cat_high}
 use Rattle.std.proofs.lemmas.Nat.{shr_split}
 use Rattle.std.proofs.lemmas.Grind.{common_steps}
@@ -34,16 +33,15 @@ pub bit_shift : (n m k : ℕ) → m ≤ k → bit n k ≡ bit (n / 2 ^ m) (k - m
 bit_shift n m k h = ap (λ (x : ℕ). bit x k) (sym (shr_split n m)) ∙ bit_at_cat_high (n / 2 ^ m) m (n % 2 ^ m) k (low_rest n m) h
 
 bit_with_other : (n k b j : ℕ) → b < 2 → j ≢ k → bit (with_bit n k b) j ≡ bit n j
-bit_with_other n k b j h ne = go (cases_order j k)
-  where
-    go : (j ≡ k) ⊎ ((j < k) ⊎ (k < j)) → bit (with_bit n k b) j ≡ bit n j
-    go (inl e) = absurd (ne e)
-    go (inr (inl l)) =
-        bit_at_cat_low (n / 2 ^ (k + 1)) (k + 1) (b * 2 ^ k + n % 2 ^ k) j (omega arith)
-        ∙ bit_at_cat_low b k (n % 2 ^ k) j l ∙ sym (bit_low n k j l)
-    go (inr (inr l)) =
-        bit_at_cat_high (n / 2 ^ (k + 1)) (k + 1) (b * 2 ^ k + n % 2 ^ k) j (low_part n k b h) (omega arith)
-        ∙ sym (bit_shift n (k + 1) j (omega arith))
+bit_with_other n k b j h ne =
+    grind (
+      arith,
+      bit_at_cat_low (n / 2 ^ (k + 1)) (k + 1) (b * 2 ^ k + n % 2 ^ k) j,
+      bit_at_cat_low b k (n % 2 ^ k) j,
+      bit_low n k j,
+      bit_at_cat_high (n / 2 ^ (k + 1)) (k + 1) (b * 2 ^ k + n % 2 ^ k) j (low_part n k b h),
+      bit_shift n (k + 1) j,
+    )
 
 with_below : (n k b : ℕ) → b < 2 → k < 8 → n < 256 → with_bit n k b < 256
 with_below n k b h l g =
@@ -60,16 +58,8 @@ bit_at-set_same bytes q b h l =
     ap (λ (x : ℕ). bit x (7 - q % 8)) (get_or-set_same bytes (q / 8) _ 0 (omega arith)) ∙ bit_with_same (get_or bytes (q / 8) 0) (7 - q % 8) b l
 
 pub bit_at-set_other : (bytes : List ℕ) (q b r : ℕ) → b < 2 → q ≢ r → bit_at (set_bit bytes q b) r ≡ bit_at bytes r
-bit_at-set_other bytes q b r l ne = go (cases_eq (r / 8) (q / 8)) (cases_lt (q / 8) (length bytes))
-  where
-    go : (r / 8 ≡ q / 8) ⊎ (r / 8 ≡ q / 8 → ⊥) → (q / 8 < length bytes) ⊎ (length bytes ≤ q / 8) → bit_at (set_bit bytes q b) r ≡ bit_at bytes r
-    go (inl e) (inl h) =
-        ap (λ (x : ℕ). bit (get_or (set_bit bytes q b) x 0) (7 - r % 8)) e
-        ∙ ap (λ (x : ℕ). bit x (7 - r % 8)) (get_or-set_same bytes (q / 8) _ 0 h)
-        ∙ bit_with_other (get_or bytes (q / 8) 0) (7 - q % 8) b (7 - r % 8) l (omega arith)
-        ∙ ap (λ (x : ℕ). bit (get_or bytes x 0) (7 - r % 8)) (sym e)
-    go (inl e) (inr h) = ap (λ (x : List ℕ). bit_at x r) (set_out bytes (q / 8) _ h)
-    go (inr n) h = ap (λ (x : ℕ). bit x (7 - r % 8)) (get_or-set_other bytes (q / 8) (r / 8) _ 0 n)
+bit_at-set_other bytes q b r l ne =
+    grind (arith, common_steps, bit_with_other (get_or bytes (q / 8) 0) (7 - q % 8) b (7 - r % 8) l)
 
 -- a byte is written among bytes
 pub set_byte : (bytes : List ℕ) (i v : ℕ) → v < 256 → Bytes bytes → Bytes (set bytes i v)

@@ -19,26 +19,13 @@ join_high v b k h l = ap (λ (x : ℕ). bit (x + b) k) (mul_comm 256 v) ∙ bit_
 
 big_bit : (bytes : List ℕ) → Bytes bytes → (f n k : ℕ) → k < 8 * n → bit (big_number bytes f n) k ≡ bit (get_or bytes (f + (n - 1 - k / 8)) 0) (k % 8)
 big_bit bytes a f zero k h = absurd (omega arith)
-big_bit bytes a f (suc n) k h = go (cases_lt k 8) (big_bit bytes a f n (k - 8))
-  where
-    go : (k < 8) ⊎ (8 ≤ k) → (k - 8 < 8 * n → bit (big_number bytes f n) (k - 8) ≡ bit (get_or bytes (f + (n - 1 - (k - 8) / 8)) 0) ((k - 8) % 8))
-        → bit (256 * big_number bytes f n + get_or bytes (f + n) 0) k ≡ bit (get_or bytes (f + (suc n - 1 - k / 8)) 0) (k % 8)
-    go (inl l) ih = join_low (big_number bytes f n) (get_or bytes (f + n) 0) k (a (f + n)) l ∙ ap (λ (x : ℕ). bit (get_or bytes x 0) k) e ∙ ap (bit (get_or bytes (f + (suc n - 1 - k / 8)) 0)) e'
-      where
-        e : f + n ≡ f + (suc n - 1 - k / 8)
-        e = omega arith
-
-        e' : k ≡ k % 8
-        e' = omega arith
-    go (inr l) ih =
-        join_high (big_number bytes f n) (get_or bytes (f + n) 0) k (a (f + n)) l ∙ ih (omega arith)
-        ∙ ap (λ (x : ℕ). bit (get_or bytes x 0) ((k - 8) % 8)) e ∙ ap (bit (get_or bytes (f + (suc n - 1 - k / 8)) 0)) e'
-      where
-        e : f + (n - 1 - (k - 8) / 8) ≡ f + (suc n - 1 - k / 8)
-        e = omega arith
-
-        e' : (k - 8) % 8 ≡ k % 8
-        e' = omega arith
+big_bit bytes a f (suc n) k h =
+    grind (
+      arith,
+      join_low (big_number bytes f n) (get_or bytes (f + n) 0) k (a (f + n)),
+      join_high (big_number bytes f n) (get_or bytes (f + n) 0) k (a (f + n)),
+      big_bit bytes a f n (k - 8),
+    )
 
 little_bit : (bytes : List ℕ) → Bytes bytes → (n f k : ℕ) → k < 8 * n → bit (little_number bytes f n) k ≡ bit (get_or bytes (f + k / 8) 0) (k % 8)
 little_bit bytes a zero f k h = absurd (omega arith)

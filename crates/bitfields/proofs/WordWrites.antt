@@ -1,9 +1,10 @@
 -- A field that lies in a word is written by replacing the word's bytes.
-use Rattle.std.proofs.Common.{◌≡◌, ℕ, zero, suc, ◌+◌, ◌-◌, ◌*◌, ◌/◌, ◌%◌, ◌^◌, ◌<◌, ◌≤◌, cond, ◌≢◌, ◌⊎◌, List, length, get_or, sym, refl, ap, ◌∙◌, subst, inl, inr, arith, length-set, get_or-set_other, get_or-set_same, pow-add, shr_lt}
+use Rattle.std.proofs.Common.{◌≡◌, ℕ, zero, suc, ◌+◌, ◌-◌, ◌*◌, ◌/◌, ◌%◌, ◌^◌, ◌<◌, ◌≤◌, cond, ◌≢◌, ◌⊎◌, List, length, get_or, sym, refl, ap, ◌∙◌, subst, inl, inr, arith, length-set, get_or-set_other, pow-add, shr_lt}
 use lib.Arith.{digits_lt}
-use Rattle.std.proofs.lemmas.Bool.{cases_eq, cases_lt}
+use Rattle.std.proofs.lemmas.Bool.{cases_lt}
 use Rattle.std.proofs.lemmas.Bool.Decides.{nat_tests}
 use Rattle.std.proofs.lemmas.Nat.Bits.{bit_at_cat_low, bit_at_cat_high}
+use Rattle.std.proofs.lemmas.Grind.{common_steps}
 use Rattle.placement.specs.Word.{Word, Whole, spot, weight, byte_in}
 use Rattle.bitfields.specs.Field.{Bytes, bit, bit_at, put}
 use Rattle.bitfields.specs.Reading.{word_number, field_in}
@@ -80,20 +81,15 @@ stored_out bytes w v (suc n) b f =
 stored_in : (bytes : List ℕ) (w : Word) (v n : ℕ) → n ≤ w.size → w.first + w.size ≤ length bytes
     → (j : ℕ) → j < n → get_or (stored bytes w v n) (byte_in w (8 * j)) 0 ≡ v / 2 ^ (8 * j) % 256
 stored_in bytes w v zero h g j l = absurd (omega arith)
-stored_in bytes w v (suc n) h g j l = go (cases_eq j n) (stored_in bytes w v n (omega arith) g j)
-  where
-    go : (j ≡ n) ⊎ (j ≡ n → ⊥) → (j < n → get_or (stored bytes w v n) (byte_in w (8 * j)) 0 ≡ v / 2 ^ (8 * j) % 256)
-        → get_or (stored bytes w v (suc n)) (byte_in w (8 * j)) 0 ≡ v / 2 ^ (8 * j) % 256
-    go (inl e) ih =
-        subst (λ (x : ℕ). get_or (stored bytes w v (suc n)) (byte_in w (8 * x)) 0 ≡ v / 2 ^ (8 * x) % 256) (sym e)
-        (get_or-set_same (stored bytes w v n) (byte_in w (8 * n)) _ 0 (omega (arith, length-stored bytes w v n, byte_in-high w (8 * n) (omega arith))))
-    go (inr e) ih =
-        get_or-set_other (stored bytes w v n) (byte_in w (8 * n)) (byte_in w (8 * j)) _ 0
-        (λ q. e (eight (byte_in_own w (8 * j) (8 * n) (omega arith) (omega arith) q)))
-        ∙ ih (omega arith)
-      where
-        eight : 8 * j / 8 ≡ 8 * n / 8 → j ≡ n
-        eight q = omega arith
+stored_in bytes w v (suc n) h g j l =
+    grind (
+      arith,
+      common_steps,
+      stored_in bytes w v n (omega arith) g j,
+      byte_in_own w (8 * j) (8 * n) (omega arith) (omega arith),
+      length-stored bytes w v n,
+      byte_in-high w (8 * n) (omega arith),
+    )
 
 bytes_stored : (bytes : List ℕ) (w : Word) (v n : ℕ) → Bytes bytes → Bytes (stored bytes w v n)
 bytes_stored bytes w v zero a = a
