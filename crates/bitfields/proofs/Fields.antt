@@ -2,7 +2,6 @@
 use Rattle.std.proofs.Common.{◌≡◌, ℕ, zero, suc, ◌+◌, ◌-◌, ◌*◌, ◌/◌, ◌%◌, ◌^◌, ◌<◌, ◌≤◌, ◌≢◌, ◌⊎◌, List, length, get_or, set, sym, refl, ap, ◌∙◌, subst, inl, inr, mod-lt, div-one, arith, length-set, get_or-set_other, get_or-set_same, ext_get_or, pow_pos, pow-add, shr-shr, shr_lt}
 use native.Mathlib.Nat.{div-eq_of_lt}
 use lib.Arith.{digits_lt}
-use Rattle.std.proofs.lemmas.Bool.{cases_eq}
 use Rattle.std.proofs.lemmas.Nat.Bits.{bit_at-lt, same_from_bits_below, bit_at_cat_low, bit_at_cat_high}
 use Rattle.std.proofs.lemmas.Nat.{shr_split}
 use Rattle.std.proofs.lemmas.Grind.{common_steps}
@@ -85,18 +84,14 @@ putting-outside x code (suc n) bytes q f =
 pub putting_inside : (x : Field) (code n : ℕ) (bytes : List ℕ) → Distinct x (length bytes) → n ≤ x.depth
     → (i : ℕ) → i < n → bit_at (putting x code n bytes) (x.spots i) ≡ bit code (x.depth - 1 - i)
 putting_inside x code zero bytes d h i l = absurd (omega arith)
-putting_inside x code (suc n) bytes d h i l = go (cases_eq i n) (putting_inside x code n bytes d (omega arith) i)
-  where
-    go : (i ≡ n) ⊎ (i ≡ n → ⊥) → (i < n → bit_at (putting x code n bytes) (x.spots i) ≡ bit code (x.depth - 1 - i))
-        → bit_at (putting x code (suc n) bytes) (x.spots i) ≡ bit code (x.depth - 1 - i)
-    go (inl e) ih =
-        ap (λ (m : ℕ). bit_at (putting x code (suc n) bytes) (x.spots m)) e
-        ∙ bit_at-set_same (putting x code n bytes) (x.spots n) _ (omega (arith, length-putting x code n bytes, d.within n (omega arith))) (bit_at-lt code (x.depth - 1 - n))
-        ∙ ap (λ (m : ℕ). bit code (x.depth - 1 - m)) (sym e)
-    go (inr e) ih =
-        bit_at-set_other (putting x code n bytes) (x.spots n) _ (x.spots i) (bit_at-lt code (x.depth - 1 - n))
-        (λ s. e (d.own i n (omega arith) (omega arith) (sym s)))
-        ∙ ih (omega arith)
+putting_inside x code (suc n) bytes d h i l =
+    grind (
+      arith,
+      putting_inside x code n bytes d (omega arith) i,
+      bit_at-set_same (putting x code n bytes) (x.spots n) (bit code (x.depth - 1 - n)) (omega (arith, length-putting x code n bytes, d.within n (omega arith))) (bit_at-lt code (x.depth - 1 - n)),
+      bit_at-set_other (putting x code n bytes) (x.spots n) (bit code (x.depth - 1 - n)) (x.spots i) (bit_at-lt code (x.depth - 1 - n)),
+      d.own i n (omega arith) (omega arith),
+    )
 
 pub spelled_same : (f g : ℕ → ℕ) (n : ℕ) → ((i : ℕ) → i < n → f i ≡ g i) → spelled f n ≡ spelled g n
 spelled_same f g zero h = refl

@@ -1,7 +1,6 @@
 -- A field that lies in a word is read from the number of the word's bytes.
-use Rattle.std.proofs.Common.{◌≡◌, ℕ, zero, suc, ◌+◌, ◌-◌, ◌*◌, ◌/◌, ◌%◌, ◌^◌, ◌<◌, ◌≤◌, Bool, true, false, cond, ◌⊎◌, List, get_or, sym, ap, ◌∙◌, subst, inl, inr, mod-lt, div-one, mul_comm, arith, pow_pos, pow-add, shr-shr}
+use Rattle.std.proofs.Common.{◌≡◌, ℕ, zero, suc, ◌+◌, ◌-◌, ◌*◌, ◌/◌, ◌%◌, ◌^◌, ◌<◌, ◌≤◌, List, get_or, sym, ap, ◌∙◌, subst, mod-lt, div-one, mul_comm, arith, pow_pos, pow-add, shr-shr}
 use lib.Arith.{digits_lt}
-use Rattle.std.proofs.lemmas.Bool.{cases_lt}
 use Rattle.std.proofs.lemmas.Bool.Decides.{nat_tests}
 use Rattle.std.proofs.lemmas.Nat.Bits.{bit_at_cat_low, bit_at_cat_high}
 use Rattle.placement.specs.Word.{Word, spot, weight, byte_in}
@@ -29,43 +28,19 @@ big_bit bytes a f (suc n) k h =
 
 little_bit : (bytes : List ℕ) → Bytes bytes → (n f k : ℕ) → k < 8 * n → bit (little_number bytes f n) k ≡ bit (get_or bytes (f + k / 8) 0) (k % 8)
 little_bit bytes a zero f k h = absurd (omega arith)
-little_bit bytes a (suc n) f k h = go (cases_lt k 8) (little_bit bytes a n (f + 1) (k - 8))
-  where
-    go : (k < 8) ⊎ (8 ≤ k) → (k - 8 < 8 * n → bit (little_number bytes (f + 1) n) (k - 8) ≡ bit (get_or bytes (f + 1 + (k - 8) / 8) 0) ((k - 8) % 8))
-        → bit (256 * little_number bytes (f + 1) n + get_or bytes f 0) k ≡ bit (get_or bytes (f + k / 8) 0) (k % 8)
-    go (inl l) ih = join_low (little_number bytes (f + 1) n) (get_or bytes f 0) k (a f) l ∙ ap (λ (x : ℕ). bit (get_or bytes x 0) k) e ∙ ap (bit (get_or bytes (f + k / 8) 0)) e'
-      where
-        e : f ≡ f + k / 8
-        e = omega arith
-
-        e' : k ≡ k % 8
-        e' = omega arith
-    go (inr l) ih =
-        join_high (little_number bytes (f + 1) n) (get_or bytes f 0) k (a f) l ∙ ih (omega arith)
-        ∙ ap (λ (x : ℕ). bit (get_or bytes x 0) ((k - 8) % 8)) e ∙ ap (bit (get_or bytes (f + k / 8) 0)) e'
-      where
-        e : f + 1 + (k - 8) / 8 ≡ f + k / 8
-        e = omega arith
-
-        e' : (k - 8) % 8 ≡ k % 8
-        e' = omega arith
+little_bit bytes a (suc n) f k h =
+    grind (
+      arith,
+      join_low (little_number bytes (f + 1) n) (get_or bytes f 0) k (a f),
+      join_high (little_number bytes (f + 1) n) (get_or bytes f 0) k (a f),
+      little_bit bytes a n (f + 1) (k - 8),
+    )
 
 -- a bit of the bytes is a bit of the word's number
 pub word-bit : (w : Word) (bytes : List ℕ) → Bytes bytes → (k : ℕ) → k < 8 * w.size
     → bit_at bytes (8 * byte_in w k + (7 - k % 8)) ≡ bit (word_number bytes w) k
 word-bit w bytes a k h =
-    ap (λ (x : ℕ). bit (get_or bytes x 0) (7 - (8 * byte_in w k + (7 - k % 8)) % 8)) e ∙ ap (bit (get_or bytes (byte_in w k) 0)) e' ∙ go w.little
-  where
-    e : (8 * byte_in w k + (7 - k % 8)) / 8 ≡ byte_in w k
-    e = omega arith
-
-    e' : 7 - (8 * byte_in w k + (7 - k % 8)) % 8 ≡ k % 8
-    e' = omega arith
-
-    go : (l : Bool) → bit (get_or bytes (w.first + cond l (k / 8) (w.size - 1 - k / 8)) 0) (k % 8)
-        ≡ bit (cond l (little_number bytes w.first w.size) (big_number bytes w.first w.size)) k
-    go true = sym (little_bit bytes a w.size w.first k h)
-    go false = sym (big_bit bytes a w.first w.size k h)
+    grind (arith, nat_tests, little_bit bytes a w.size w.first k h, big_bit bytes a w.first w.size k h)
 
 -- the digits of v from the weight m + n down to m
 spelled-field : (v n m : ℕ) → spelled (λ i. bit v (m + (n - 1 - i))) n ≡ v / 2 ^ m % 2 ^ n
