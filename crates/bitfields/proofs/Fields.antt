@@ -146,16 +146,7 @@ bytes_same a b h l e f =
     ext_get_or 0 a b e (λ k g. same_from_bits_below 8 (get_or a k 0) (get_or b k 0) (h k) (l k) (λ j m. one k j g m))
   where
     one : (k j : ℕ) → k < length a → j < 8 → bit (get_or a k 0) j ≡ bit (get_or b k 0) j
-    one k j g m =
-        ap (λ (x : ℕ). bit (get_or a x 0) j) (sym e1) ∙ ap (bit (get_or a ((8 * k + (7 - j)) / 8) 0)) (sym e2)
-        ∙ f (8 * k + (7 - j)) (omega arith)
-        ∙ ap (bit (get_or b ((8 * k + (7 - j)) / 8) 0)) e2 ∙ ap (λ (x : ℕ). bit (get_or b x 0) j) e1
-      where
-        e1 : (8 * k + (7 - j)) / 8 ≡ k
-        e1 = omega arith
-
-        e2 : 7 - (8 * k + (7 - j)) % 8 ≡ j
-        e2 = omega arith
+    one k j g m = grind (arith, f (8 * k + (7 - j)) (omega arith))
 
 pub put_only : (x : Field) (code : ℕ) (bytes r : List ℕ) → Distinct x (length bytes) → Bytes bytes → Bytes r → length r ≡ length bytes
     → ((i : ℕ) → i < x.depth → bit_at r (x.spots i) ≡ bit code (x.depth - 1 - i))

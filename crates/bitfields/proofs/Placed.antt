@@ -1,9 +1,8 @@
 -- The places of a plan that fits are fields with bits of their own.
-use Rattle.std.proofs.Common.{ℕ, ◌*◌, ◌/◌, ◌^◌, ◌<◌, ◌≤◌, ◌≢◌, length, sym, subst, arith}
+use Rattle.std.proofs.Common.{ℕ, ◌/◌, ◌^◌, ◌<◌, ◌≤◌, ◌≢◌, length, sym, subst, arith}
 use Rattle.placement.specs.declared.place.Place.{Place}
-use Rattle.placement.specs.Word.{spot}
 use Rattle.placement.specs.Grid.{frame_bytes}
-use Rattle.placement.specs.Place.{Plan, grid, depth_of, word_of, Valid, PlanSound}
+use Rattle.placement.specs.Place.{Plan, grid, depth_of, Valid, PlanSound}
 use Rattle.placement.proofs.Places.{plans_sound}
 use Rattle.bitfields.specs.Field.{Distinct, Separate}
 use Rattle.bitfields.specs.Plans.{field_at, PlanKeeps, PlansKeep}
@@ -16,22 +15,16 @@ module _ (f : Plan) (s : PlanSound f) where
 
   pub distinct : (p : Place) (size : ℕ) → Valid f p → frame_bytes (grid f) ≤ size → Distinct (field_at f p) size
   distinct p size v h = record {
-    within = λ i l. below (spot (word_of f p) i) (frame_bytes (grid f)) (s.within p i v (low p i v l)) h;
+    within = λ i l. omega (arith, s.within p i v (low p i v l));
     own = λ i j hi hj e. (s.apart p p i j v v (low p i v hi) (low p j v hj) e).1;
   }
-    where
-      below : (q n : ℕ) → q / 8 < n → n ≤ size → q < 8 * size
-      below q n b l = omega arith
 
   pub separate : (p q : Place) → Valid f p → Valid f q → p ≢ q → Separate (field_at f p) (field_at f q)
   separate p q v u ne i j hi hj e = ne (s.apart p q i j v u (low p i v hi) (low q j u hj) e).0
 
   -- no bit of a place lies past the frame size
   past : (p : Place) (k : ℕ) → Valid f p → frame_bytes (grid f) ≤ k → (i : ℕ) → i < (field_at f p).depth → (field_at f p).spots i / 8 ≢ k
-  past p k v h i l e = differ (spot (word_of f p) i / 8) (frame_bytes (grid f)) (s.within p i v (low p i v l)) h e
-    where
-      differ : (b n : ℕ) → b < n → n ≤ k → b ≢ k
-      differ b n below end e = omega arith
+  past p k v h i l e = omega (arith, s.within p i v (low p i v l))
 
   keeps : PlanKeeps f
   keeps = record {

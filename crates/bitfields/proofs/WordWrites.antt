@@ -141,16 +141,14 @@ stored_is_put w bytes code h a g c =
         e = omega arith
 
     kept : (k : ℕ) → k < 8 * w.size → ((i : ℕ) → i < w.depth → spot w i ≢ 8 * byte_in w k + (7 - k % 8)) → bit v' k ≡ bit v k
-    kept k l f = go (cases_lt k w.low) (cases_lt k (w.low + w.depth))
-      where
-        same : w.low ≤ k → k < w.low + w.depth → weight w (w.low + w.depth - 1 - k) ≡ k
-        same p r = omega arith
-
-        go : (k < w.low) ⊎ (w.low ≤ k) → (k < w.low + w.depth) ⊎ (w.low + w.depth ≤ k) → bit v' k ≡ bit v k
-        go (inl p) r = replaced_low v w.low w.depth code c k p
-        go (inr p) (inr r) = replaced-high v w.low w.depth code c k r
-        go (inr p) (inl r) =
-            absurd (f (w.low + w.depth - 1 - k) (omega (arith, h.some)) (ap (λ (x : ℕ). 8 * byte_in w x + (7 - x % 8)) (same p r)))
+    kept k l f =
+        grind (
+          arith,
+          h.some,
+          replaced_low v w.low w.depth code c k,
+          replaced-high v w.low w.depth code c k,
+          f (w.low + w.depth - 1 - k),
+        )
 
     outside : (q : ℕ) → ((i : ℕ) → i < w.depth → spot w i ≢ q) → bit_at (stored bytes w v' w.size) q ≡ bit_at bytes q
     outside q f = go (cases_lt (q / 8) w.first) (cases_lt (q / 8) (w.first + w.size))
