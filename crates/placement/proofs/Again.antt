@@ -9,15 +9,10 @@ use Rattle.placement.specs.Steps.{block_after, held_after}
 use Rattle.placement.specs.Turn.{block_at, held_at, Turns}
 
 pub repeated_add : {A : Type 0} (m n : ℕ) (xs : List A) → repeated (m + n) xs ≡ repeated m xs ++ repeated n xs
-repeated_add zero n xs = ap (λ (x : ℕ). repeated x xs) e
-  where
-    e : 0 + n ≡ n
-    e = omega arith
+repeated_add zero n xs = grind arith
 repeated_add (suc m) n xs =
+    let e : suc m + n ≡ suc (m + n) = omega arith in
     ap (λ (x : ℕ). repeated x xs) e ∙ ap (λ x. xs ++ x) (repeated_add m n xs) ∙ sym (append_assoc xs (repeated m xs) (repeated n xs))
-  where
-    e : suc m + n ≡ suc (m + n)
-    e = omega arith
 
 pub held-append : (b : Blocks) (xs ys : List Cell) (o : ℕ) → held_after b o (xs ++ ys) ≡ held_after b (held_after b o xs) ys
 held-append b [] ys o = refl
@@ -56,36 +51,12 @@ module _ (b : Blocks) (cycle : List Cell) (i n : ℕ) (same : held_at b cycle (i
       omega (arith, e, block_add b cycle (i + n) j, block_add b cycle i j, block_add b cycle i n)
 
   pub held_again : (m j : ℕ) → held_at b cycle (i + m * n + j) ≡ held_at b cycle (i + j)
-  held_again zero j = ap (λ (x : ℕ). held_at b cycle x) e
-    where
-      e : i + 0 * n + j ≡ i + j
-      e = omega arith
-  held_again (suc m) j = ap (λ (x : ℕ). held_at b cycle x) e ∙ held_once (m * n + j) ∙ ap (λ (x : ℕ). held_at b cycle x) f ∙ held_again m j
-    where
-      e : i + suc m * n + j ≡ i + n + (m * n + j)
-      e = omega arith
-
-      f : i + (m * n + j) ≡ i + m * n + j
-      f = omega arith
+  held_again zero j = grind arith
+  held_again (suc m) j = grind (arith, held_once (m * n + j), held_again m j)
 
   pub block_again : (m j : ℕ) → block_at b cycle (i + m * n + j) ≡ block_at b cycle (i + j) + m * (block_at b cycle (i + n) - block_at b cycle i)
-  block_again zero j = ap (λ (x : ℕ). block_at b cycle x) e ∙ omega arith
-    where
-      e : i + 0 * n + j ≡ i + j
-      e = omega arith
-  block_again (suc m) j =
-      ap (λ (x : ℕ). block_at b cycle x) e ∙ block_once (m * n + j) ∙ ap (λ (x : ℕ). block_at b cycle x + (block_at b cycle (i + n) - block_at b cycle i)) f
-      ∙ ap (λ (x : ℕ). x + (block_at b cycle (i + n) - block_at b cycle i)) (block_again m j)
-      ∙ g (block_at b cycle (i + j)) (block_at b cycle (i + n) - block_at b cycle i)
-    where
-      e : i + suc m * n + j ≡ i + n + (m * n + j)
-      e = omega arith
-
-      f : i + (m * n + j) ≡ i + m * n + j
-      f = omega arith
-
-      g : (x y : ℕ) → x + m * y + y ≡ x + suc m * y
-      g x y = omega arith
+  block_again zero j = grind arith
+  block_again (suc m) j = grind (arith, block_once (m * n + j), block_again m j)
 
 -- m + 1 numbers below m: two of them are equal
 pub find : (f : ℕ → ℕ) (v n : ℕ) → ((i : ℕ) × (i < n) × (f i ≡ v)) ⊎ ((i : ℕ) → i < n → f i ≢ v)

@@ -1,5 +1,5 @@
 -- Lines of a repeated cycle.
-use Rattle.std.proofs.Common.{◌≡◌, ℕ, zero, suc, ◌+◌, ◌*◌, ◌/◌, ◌<◌, Bool, true, false, cond, eqb, ◌≢◌, List, [], ◌∷◌, ◌++◌, length, get_or, sym, refl, ap, ◌∙◌, subst, zero-mul, arith, length-append}
+use Rattle.std.proofs.Common.{◌≡◌, ℕ, zero, suc, ◌+◌, ◌*◌, ◌/◌, ◌<◌, Bool, true, false, cond, eqb, ◌≢◌, List, [], ◌∷◌, length, get_or, sym, refl, ap, ◌∙◌, subst, zero-mul, arith, length-append}
 use lib.Arith.{digits_lt}
 use Rattle.std.specs.List.{AllByRecursion}
 use Rattle.std.proofs.ByRecursion.{All-weaker, All-append}
@@ -58,15 +58,9 @@ length-repeated (suc n) xs = omega (arith, length-append xs (repeated n xs), len
 
 pub get_or-repeated : {A : Type 0} (n : ℕ) (xs : List A) (r c : ℕ) (d : A) → r < n → c < length xs → get_or (repeated n xs) (r * length xs + c) d ≡ get_or xs c d
 get_or-repeated zero xs r c d h l = absurd (omega arith)
-get_or-repeated (suc n) xs zero c d h l = ap (λ (x : ℕ). get_or (xs ++ repeated n xs) x d) e ∙ get_or_append_left xs (repeated n xs) d c l
-  where
-    e : 0 * length xs + c ≡ c
-    e = omega arith
+get_or-repeated (suc n) xs zero c d h l = grind (arith, get_or_append_left xs (repeated n xs) d c l)
 get_or-repeated (suc n) xs (suc r) c d h l =
-    ap (λ (x : ℕ). get_or (xs ++ repeated n xs) x d) e ∙ get_or-append-add xs (repeated n xs) (r * length xs + c) d ∙ get_or-repeated n xs r c d (omega arith) l
-  where
-    e : suc r * length xs + c ≡ length xs + (r * length xs + c)
-    e = omega arith
+    grind (arith, get_or-append-add xs (repeated n xs) (r * length xs + c) d, get_or-repeated n xs r c d (omega arith) l)
 
 pub all_repeated : {A : Type 0} (P : A → Type 0) (n : ℕ) (xs : List A) → AllByRecursion P xs → AllByRecursion P (repeated n xs)
 all_repeated P zero xs a = tt

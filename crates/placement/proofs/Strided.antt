@@ -72,18 +72,9 @@ packed-append little [] ys p = refl
 packed-append little (e ∷ es) ys p = ap (λ (x : List Word). packed_word little p e ∷ x) (packed-append little es ys (after p e))
 
 later : (cycle : List Cell) (r j : ℕ) → packed_end (packed_end 0 cycle + j * stride cycle) (repeated r cycle) ≡ packed_end 0 cycle + (j + r) * stride cycle
-later cycle zero j = ap (λ (x : ℕ). packed_end 0 cycle + x * stride cycle) e
-  where
-    e : j ≡ j + 0
-    e = omega arith
+later cycle zero j = grind arith
 later cycle (suc r) j =
-    fold-append after (packed_end 0 cycle + j * stride cycle) cycle (repeated r cycle)
-    ∙ ap (λ (x : ℕ). packed_end x (repeated r cycle)) (next cycle j)
-    ∙ later cycle r (j + 1)
-    ∙ ap (λ (x : ℕ). packed_end 0 cycle + x * stride cycle) e
-  where
-    e : j + 1 + r ≡ j + suc r
-    e = omega arith
+    grind (arith, fold-append after (packed_end 0 cycle + j * stride cycle) cycle (repeated r cycle), next cycle j, later cycle r (j + 1))
 
 pub ends : (cycle : List Cell) (r : ℕ) → packed_end 0 (repeated r cycle) ≡ starts cycle r
 ends cycle zero = refl
