@@ -28,17 +28,16 @@ block_moved b (e ∷ es) k o m = grind (arith, nat_tests, block_moved b es (bloc
 
 -- from the state after i repetitions
 held_add : (b : Blocks) (cycle : List Cell) (i j : ℕ) → held_at b cycle (i + j) ≡ held_after b (held_at b cycle i) (repeated j cycle)
-held_add b cycle i j = ap (λ (x : List Cell). held_after b 0 x) (repeated_add i j cycle) ∙ held-append b (repeated i cycle) (repeated j cycle) 0
+held_add b cycle i j = grind (arith, repeated_add i j cycle, held-append b (repeated i cycle) (repeated j cycle) 0)
 
 pub block_add : (b : Blocks) (cycle : List Cell) (i j : ℕ) → block_at b cycle (i + j) ≡ block_after b 0 (held_at b cycle i) (repeated j cycle) + block_at b cycle i
 block_add b cycle i j =
-    ap (λ (x : List Cell). block_after b 0 0 x) (repeated_add i j cycle)
-    ∙ block_append b (repeated i cycle) (repeated j cycle) 0 0
-    ∙ ap (λ (x : ℕ). block_after b x (held_at b cycle i) (repeated j cycle)) e
-    ∙ block_moved b (repeated j cycle) 0 (held_at b cycle i) (block_at b cycle i)
-  where
-    e : block_at b cycle i ≡ 0 + block_at b cycle i
-    e = omega arith
+    grind (
+      arith,
+      repeated_add i j cycle,
+      block_append b (repeated i cycle) (repeated j cycle) 0 0,
+      block_moved b (repeated j cycle) 0 (held_at b cycle i) (block_at b cycle i),
+    )
 
 module _ (b : Blocks) (cycle : List Cell) (i n : ℕ) (same : held_at b cycle (i + n) ≡ held_at b cycle i) where
   held_once : (j : ℕ) → held_at b cycle (i + n + j) ≡ held_at b cycle (i + j)

@@ -1,7 +1,6 @@
 use Rattle.std.proofs.Common.{◌≡◌, ℕ, zero, suc, ◌+◌, ◌-◌, ◌*◌, ◌/◌, ◌%◌, ◌<◌, Bool, true, false, eqb, List, [], ◌∷◌, ◌++◌, map, length, get_or, sym, refl, ap, ◌∙◌, arith}
 use Rattle.std.proofs.lemmas.List.{get_or_append_left, get_or-append-add}
 use Rattle.std.proofs.lemmas.List.Sums.{fold-append}
-use Rattle.std.proofs.lemmas.Bool.{cond-false, ne_eqb}
 use Rattle.std.proofs.lemmas.Bool.Decides.{nat_tests}
 use Rattle.placement.specs.Word.{Word}
 use Rattle.placement.specs.Pack.{Cell, nowhere, packed_word, after, packed, packed_end}
@@ -23,10 +22,7 @@ word_moved little p m e = grind (arith, nat_tests)
 
 packed-moved : (little : Bool) (es : List Cell) (p m : ℕ) → packed little (p + 8 * m) es ≡ map (moved m) (packed little p es)
 packed-moved little [] p m = refl
-packed-moved little (e ∷ es) p m =
-    ap (λ (x : Word). x ∷ packed little (after (p + 8 * m) e) es) (word_moved little p m e)
-    ∙ ap (λ (x : ℕ). moved m (packed_word little p e) ∷ packed little x es) (after-moved p m e)
-    ∙ ap (λ (x : List Word). moved m (packed_word little p e) ∷ x) (packed-moved little es (after p e) m)
+packed-moved little (e ∷ es) p m = grind (arith, word_moved little p m e, after-moved p m e, packed-moved little es (after p e) m)
 
 -- a run adds its bits, or it has a word of its own, behind which the bit in the byte is the same from wherever the run began
 data Shape (es : List Cell) : Type 0 where
@@ -78,38 +74,27 @@ later cycle (suc r) j =
 
 pub ends : (cycle : List Cell) (r : ℕ) → packed_end 0 (repeated r cycle) ≡ starts cycle r
 ends cycle zero = refl
-ends cycle (suc r) =
-    fold-append after 0 cycle (repeated r cycle)
-    ∙ ap (λ (x : ℕ). packed_end x (repeated r cycle)) e
-    ∙ later cycle r 0
-    ∙ ap (λ (x : ℕ). packed_end 0 cycle + x * stride cycle) f
-    ∙ sym (cond-false _ _ _ (ne_eqb (suc r) 0 (λ z. omega arith)))
-  where
-    f : 0 + r ≡ suc r - 1
-    f = omega arith
-
-    e : packed_end 0 cycle ≡ packed_end 0 cycle + 0 * stride cycle
-    e = omega arith
+ends cycle (suc r) = grind (arith, nat_tests, fold-append after 0 cycle (repeated r cycle), later cycle r 0)
 
 turn : (little : Bool) (cycle : List Cell) (count r c p : ℕ) → r < count → c < length cycle
     → get_or (packed little p (repeated count cycle)) (r * length cycle + c) nowhere ≡ get_or (packed little (packed_end p (repeated r cycle)) cycle) c nowhere
 turn little cycle zero r c p h g = absurd (omega arith)
 turn little cycle (suc n) zero c p h g =
-    ap (λ (x : List Word). get_or x (0 * length cycle + c) nowhere) (packed-append little cycle (repeated n cycle) p)
-    ∙ ap (λ (x : ℕ). get_or (packed little p cycle ++ packed little (packed_end p cycle) (repeated n cycle)) x nowhere) e
-    ∙ get_or_append_left (packed little p cycle) (packed little (packed_end p cycle) (repeated n cycle)) nowhere c (omega (arith, packed-length little p cycle))
-  where
-    e : 0 * length cycle + c ≡ c
-    e = omega arith
+    grind (
+      arith,
+      packed-append little cycle (repeated n cycle) p,
+      packed-length little p cycle,
+      get_or_append_left (packed little p cycle) (packed little (packed_end p cycle) (repeated n cycle)) nowhere c,
+    )
 turn little cycle (suc n) (suc r) c p h g =
-    ap (λ (x : List Word). get_or x (suc r * length cycle + c) nowhere) (packed-append little cycle (repeated n cycle) p)
-    ∙ ap (λ (x : ℕ). get_or (packed little p cycle ++ packed little (packed_end p cycle) (repeated n cycle)) x nowhere) e
-    ∙ get_or-append-add (packed little p cycle) (packed little (packed_end p cycle) (repeated n cycle)) (r * length cycle + c) nowhere
-    ∙ turn little cycle n r c (packed_end p cycle) (omega arith) g
-    ∙ ap (λ (x : ℕ). get_or (packed little x cycle) c nowhere) (sym (fold-append after p cycle (repeated r cycle)))
-  where
-    e : suc r * length cycle + c ≡ length (packed little p cycle) + (r * length cycle + c)
-    e = omega (arith, packed-length little p cycle)
+    grind (
+      arith,
+      packed-append little cycle (repeated n cycle) p,
+      packed-length little p cycle,
+      get_or-append-add (packed little p cycle) (packed little (packed_end p cycle) (repeated n cycle)) (r * length cycle + c) nowhere,
+      turn little cycle n r c (packed_end p cycle) (omega arith) g,
+      fold-append after p cycle (repeated r cycle),
+    )
 
 pub strides : Strides
 strides =
