@@ -1,9 +1,9 @@
 -- The facts of a layout are facts: two proofs of them are equal.
-use Rattle.std.proofs.Common.{List, [], ◌∷◌, refl}
+use Rattle.std.proofs.Common.{List}
 use mathlib.Core.HLevel.{Π_prop, →_prop, ×_prop}
 use native.Mathlib.Bridge.{le_prop}
 use native.Mathlib.Nat.{ℕ_set}
-use Rattle.std.specs.List.{AllByRecursion}
+use Rattle.std.specs.List.{AllByRecursion-prop}
 use Rattle.placement.specs.Line as line
 use Rattle.placement.specs.Pack.{Cell}
 use Rattle.placement.specs.Place.{Plan, PlanFits}
@@ -12,10 +12,6 @@ use Rattle.plans.specs.Fit.{Small}
 use Rattle.plans.specs.Views.{View}
 use Rattle.plans.specs.declared.entry.Entry.{Entry}
 use Rattle.plans.specs.declared.packing.Packing.{Packing}
-
-all_prop : {X : Type 0} (P : X → Type 0) → ((x : X) → IsProp (P x)) → (xs : List X) → IsProp (AllByRecursion P xs)
-all_prop P h [] a b = refl
-all_prop P h (x ∷ xs) a b = λ i. (h x a.0 b.0 i, all_prop P h xs a.1 b.1 i)
 
 small_prop : (p : Packing) (e : Entry) → IsProp (Small p e)
 small_prop p e a b = λ i. record {
@@ -34,7 +30,7 @@ holds_prop p e a b = λ i. record {
 
 cycle_prop : (p : line.Packing) (es : List Cell) → IsProp (line.CycleFits p es)
 cycle_prop p es a b = λ i. record {
-  held = all_prop (line.Holds p) (holds_prop p) es a.held b.held i;
+  held = AllByRecursion-prop (line.Holds p) (holds_prop p) es a.held b.held i;
   pixel = →_prop le_prop a.pixel b.pixel i;
 }
 
@@ -56,7 +52,7 @@ gridded_prop v e a b = λ i. record {
 pub facts_once : (v : View) → IsProp (Facts v)
 facts_once v a b = λ i. record {
   few = le_prop a.few b.few i;
-  cells = all_prop (Small v.packing) (small_prop v.packing) v.entries a.cells b.cells i;
+  cells = AllByRecursion-prop (Small v.packing) (small_prop v.packing) v.entries a.cells b.cells i;
   block = le_prop a.block b.block i;
   pixel = le_prop a.pixel b.pixel i;
   row = le_prop a.row b.row i;

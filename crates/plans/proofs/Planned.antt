@@ -37,20 +37,12 @@ unfull types s v es k q = grind (arith, nat_tests)
 
 -- a part of a cycle is alike where the cycle is
 alike-drop : (k : ℕ) (xs : List Slot) → Alike xs → Alike (drop k xs)
-alike-drop k xs a n m q p e =
-    ap (λ (x : Slot). x.cell.depth) (get_or-drop k xs n no_slot)
-    ∙ a (k + n) (k + m) (omega (arith, length-drop k xs)) (omega (arith, length-drop k xs))
-    (ap (λ (x : Slot). x.index) (sym (get_or-drop k xs n no_slot)) ∙ e ∙ ap (λ (x : Slot). x.index) (get_or-drop k xs m no_slot))
-    ∙ ap (λ (x : Slot). x.cell.depth) (sym (get_or-drop k xs m no_slot))
+alike-drop k xs a n m q p e = grind (arith, length-drop k xs, get_or-drop k xs n no_slot, get_or-drop k xs m no_slot, a (k + n) (k + m))
 
 alike-take : (k : ℕ) (xs : List Slot) → Alike xs → Alike (take k xs)
 alike-take k xs a n m q p e =
     let l = length-take k xs in
-    let i = get_or-take k xs n no_slot (omega arith) in
-    let j = get_or-take k xs m no_slot (omega arith) in
-    ap (λ (x : Slot). x.cell.depth) i
-    ∙ a n m (omega arith) (omega arith) (ap (λ (x : Slot). x.index) (sym i) ∙ e ∙ ap (λ (x : Slot). x.index) j)
-    ∙ ap (λ (x : Slot). x.cell.depth) (sym j)
+    grind (arith, get_or-take k xs n no_slot (omega arith), get_or-take k xs m no_slot (omega arith), a n m (omega arith) (omega arith))
 
 alike_one : (x : Slot) → Alike (x ∷ [])
 alike_one x zero zero q p e = refl
@@ -173,7 +165,7 @@ module _ (types : Types) (s : Sampling) (block : ℕ) (f : Flags) (z : Sizes) (e
       → (get_or es n blank).depth_less_one ≡ (get_or es m blank).depth_less_one
 
   own_depth : (v : Interleave) → is_multi_y v ≡ false → Rules types s v block z es w h → SameDepth
-  own_depth v q r n m i j e = ap (λ (k : ℕ). (get_or es k blank).depth_less_one) (own v q r n m i j e)
+  own_depth v q r n m i j e = grind (arith, own v q r n m i j e)
 
   many_depth : Rules types s MultiY block z es w h → SameDepth
   many_depth r n m i j e =
@@ -185,11 +177,7 @@ module _ (types : Types) (s : Sampling) (block : ℕ) (f : Flags) (z : Sizes) (e
   alike_all : SameDepth → Alike (map slot_of (map entry es))
   alike_all a n m q p e =
       let l : length (map slot_of (map entry es)) ≡ length es = length-map (map entry es) slot_of ∙ length-map es entry in
-      let i = slot_at n (omega arith) in
-      let j = slot_at m (omega arith) in
-      ap (λ (x : Slot). x.cell.depth) i
-      ∙ ap (λ (d : ℕ). d + 1) (a n m (omega arith) (omega arith) (ap (λ (x : Slot). x.index) (sym i) ∙ e ∙ ap (λ (x : Slot). x.index) j))
-      ∙ ap (λ (x : Slot). x.cell.depth) (sym j)
+      grind (arith, slot_at n (omega arith), slot_at m (omega arith), a n m (omega arith) (omega arith))
 
   alone-alike : (v : Interleave) (g : ℕ) → g < length (map (alone (view v)) (map entry es))
       → Alike (get_or (map (alone (view v)) (map entry es)) g no_strip).cycle

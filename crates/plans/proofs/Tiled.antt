@@ -3,7 +3,7 @@ use Rattle.std.proofs.Common.{◌≡◌, ℕ, zero, suc, ◌+◌, ◌*◌, ◌/�
 use native.Mathlib.Nat.{div-add-mod, div-eq_of_eq-mul_left, div-eq_of_eq-mul_right}
 use lib.ListN.{length-map}
 use Rattle.std.specs.List.{list_all}
-use Rattle.std.proofs.lemmas.Bool.{eq-eqb, ne_eqb, both_ways, cases_order, cases_Bool}
+use Rattle.std.proofs.lemmas.Bool.{eq-eqb, ne_eqb, both_ways, cases_Bool}
 use Rattle.std.proofs.lemmas.Bool.Decides.{nat_tests}
 use Rattle.choices.specs.Choices.{across_of, down_of}
 use Rattle.choices.specs.declared.choice.Interleave.{Interleave}
@@ -19,7 +19,7 @@ use Rattle.rules.specs.Tiles.{divides, tiles_fit}
 use Rattle.placement.specs.Place.{Slot, Strip, no_slot, no_strip, times, nth, strip_with, strip, PlanFits}
 use Rattle.placement.proofs.Places.{nth_below, nth_is}
 use Rattle.plans.specs.Cells.{slot_of}
-use Rattle.plans.specs.Entries.{is_chroma, columns_of, rows_of, defined_as, no_entry}
+use Rattle.plans.specs.Entries.{is_chroma, defined_as, no_entry}
 use Rattle.plans.specs.Facts.{Gridded}
 use Rattle.plans.specs.Views.{View, alone, together, strips_by, plan_of}
 use Rattle.plans.specs.declared.entry.Entry.{Entry}
@@ -251,17 +251,14 @@ module _ (types : Types) (s : Sampling) (block : ℕ) (f : Flags) (z : Sizes) (e
 
   -- entries of different types list different indexes
   kinds_apart : (j k : ℕ) → j ≢ k → (n m : ℕ) → is_of types j (at n) ≡ true → is_of types k (at m) ≡ true → (at n).index ≢ (at m).index
-  kinds_apart j k q n m a b e =
-      q (sym (number (types (at n).index) j a) ∙ ap (λ (x : ℕ). defined_as (types x)) e ∙ number (types (at m).index) k b)
+  kinds_apart j k q n m a b e = grind (arith, number (types (at n).index) j a, number (types (at m).index) k b)
 
   yuv-cases : (n : ℕ) → is_yuv types (at n) ≡ true → (is_of types 1 (at n) ≡ true) ⊎ ((is_of types 2 (at n) ≡ true) ⊎ (is_of types 3 (at n) ≡ true))
   yuv-cases n q = grind (arith, nat_tests)
 
   -- the grids of Y, and of U and V
   luma_grid : (n : ℕ) → is_of types 1 (at n) ≡ true → ((settled (at n)).columns ≡ w) × ((settled (at n)).rows ≡ h)
-  luma_grid n q =
-      let k = number (types (at n).index) 1 q in
-      (ap (λ (x : ℕ). columns_of s w x) k, ap (λ (x : ℕ). rows_of s h x) k)
+  luma_grid n q = let k = number (types (at n).index) 1 q in grind (arith, nat_tests)
 
   chroma_grid : (n : ℕ) → (is_of types 2 (at n) ≡ true) ⊎ (is_of types 3 (at n) ≡ true)
       → ((settled (at n)).columns ≡ w / across_of s) × ((settled (at n)).rows ≡ h / down_of s)
@@ -274,14 +271,7 @@ module _ (types : Types) (s : Sampling) (block : ℕ) (f : Flags) (z : Sizes) (e
   chroma_once : Rules types s MultiY block z es w h → (k : ℕ) → 1 ≢ k → (n : ℕ) → n < length es → is_of types k (at n) ≡ true
       → times (at n).index (map slot_of (map settled es)) ≡ 1
   chroma_once r k d n l i =
-      lone n l (λ m q e.
-      elim (cases_order m n) [
-        | inl a ↦ a
-        | inr o ↦ elim o [
-          | inl a ↦ absurd (kinds_apart 1 k d n n (r.once m n a l e).1 i refl)
-          | inr a ↦ absurd (kinds_apart 1 k d m n (r.once n m a q (sym e)).1 i e)
-        ]
-      ])
+      lone n l (λ m q e. grind (arith, r.once n m, r.once m n, kinds_apart 1 k d n n, kinds_apart 1 k d m n))
 
   luma_often : Rules types s MultiY block z es w h → yuv types es ≡ true → list_all (is_yuv types) es ≡ true → length es ≡ 2 + across_of s
       → (n : ℕ) → n < length es → is_of types 1 (at n) ≡ true → times (at n).index (map slot_of (map settled es)) ≡ across_of s
