@@ -1,6 +1,7 @@
 -- The entries of a cycle.
-use Rattle.std.proofs.Common.{ℕ, ◌*◌, ◌<◌, ◌≤◌, ◌≢◌, List, length, get_or}
-use Rattle.std.proofs.ByRecursion.{All-get_or, All-weaker}
+use Rattle.std.proofs.Common.{ℕ, ◌*◌, ◌<◌, ◌≤◌, ◌≢◌, List, length, get_or, take, arith}
+use Rattle.std.proofs.ByRecursion.{All-get_or, All-take, All-weaker}
+use Rattle.std.proofs.lemmas.List.{length-take}
 use Rattle.choices.specs.declared.choice.Format.{Format}
 use Rattle.plans.specs.Fit.{Small, Fitting, Narrow, Streams, Within, InBlocks}
 use Rattle.plans.specs.declared.entry.Entry.{Entry}
@@ -32,3 +33,9 @@ streams p xs n f = record { short = f.short; narrow = All-weaker (Small p) Narro
 pub in_blocks : (p : Packing) (xs : List Entry) (n : ℕ) → p.blocks.bytes.0 ≢ 0 → Fitting p xs n → InBlocks p.blocks xs
 in_blocks p xs n z f =
     record { small = f.block; short = f.short; within = All-weaker (Small p) (Within p.blocks) (λ e s. s.in_block z) xs f.small }
+
+pub streams_take : (xs : List Entry) (n : ℕ) → Streams xs → Streams (take n xs)
+streams_take xs n f = record { short = simp length-take (omega (arith, f.short)); narrow = All-take Narrow n xs f.narrow }
+
+pub in_blocks-take : (b : Blocks) (xs : List Entry) (n : ℕ) → InBlocks b xs → InBlocks b (take n xs)
+in_blocks-take b xs n f = record { small = f.small; short = simp length-take (omega (arith, f.short)); within = All-take (Within b) n xs f.within }

@@ -1,8 +1,10 @@
--- The loops that look for an index.
-use Rattle.std.proofs.Common.{◌≡◌, ℕ, zero, suc, ◌+◌, ◌-◌, ◌<◌, ◌≤◌, Bool, true, false, cond, eqb, ◌≢◌, List, [], ◌∷◌, map, length, get_or, drop, Some, None, Option, sym, refl, ap, ◌∙◌, subst, arith}
+-- What looking for an index comes to.
+use Rattle.std.proofs.Common.{◌≡◌, ℕ, zero, suc, ◌+◌, ◌-◌, ◌<◌, Bool, true, false, cond, eqb, ltb, ◌≢◌, List, [], ◌∷◌, map, length, get_or, Some, None, Option, sym, refl, ap, ◌∙◌, subst, arith}
+use Rattle.std.specs.List.{filter, enumerate_from, position_from, position_or_len, slice_get}
 use Rattle.std.specs.Option as option
-use Rattle.std.proofs.lemmas.List.{at_drop_more, at_drop_all}
-use Rattle.std.proofs.lemmas.Bool.{cond-true, cond-false, eq-eqb, ne_eqb, eqb-true, eqb-false}
+use Rattle.std.specs.Option.{MatchOption}
+use Rattle.std.proofs.lemmas.Bool.{cond-false, ne_eqb, eqb-true, eqb-false}
+use Rattle.std.proofs.lemmas.Iterator.Adapters.{position_from-zero}
 use Rattle.placement.specs.Place.{times, nth}
 use Rattle.plans.specs.Cells.{slot_of}
 use Rattle.plans.specs.Entries.{no_entry, position_with}
@@ -13,9 +15,9 @@ abbrev pub shifted : ℕ → Option ℕ → Option ℕ
 shifted i None = None
 shifted i (Some n) = Some (i + n)
 
-pub shifted_none : (o : Option ℕ) → o ≡ shifted 0 o
-shifted_none None = refl
-shifted_none (Some n) = ap (λ (x : ℕ). Some x) e
+pub shifted_zero : (o : Option ℕ) → o ≡ shifted 0 o
+shifted_zero None = refl
+shifted_zero (Some n) = ap (λ (x : ℕ). Some x) e
   where
     e : n ≡ 0 + n
     e = omega arith
@@ -27,46 +29,70 @@ shifted_more i (Some n) = ap (λ (x : ℕ). Some x) e
     e : i + suc n ≡ i + 1 + n
     e = omega arith
 
-module _ (c : ℕ) (es : List Entry) (i : ℕ) (h : i < length es) where
-  pub position_hit : (get_or es i no_entry).index ≡ c → shifted i (position_with c (drop i es)) ≡ Some i
-  position_hit e =
-      at_drop_more (λ xs. shifted i (position_with c xs)) es i no_entry h
-      ∙ ap (shifted i) (cond-true _ _ _ (eq-eqb (get_or es i no_entry).index c e)) ∙ ap (λ (x : ℕ). Some x) z
+module _ (c : ℕ) where
+  abbrev pub lists : Entry → Bool
+  lists e = eqb e.index c
+
+  position_at : (es : List Entry) (i : ℕ) → position_from lists i es ≡ shifted i (position_with c es)
+  position_at [] i = refl
+  position_at (e ∷ es) i = go (eqb e.index c) (position_at es (i + 1))
     where
-      z : i + 0 ≡ i
-      z = omega arith
+      go : (t : Bool) → position_from lists (i + 1) es ≡ shifted (i + 1) (position_with c es)
+          → cond t (Some i) (position_from lists (i + 1) es) ≡ shifted i (cond t (Some 0) (option.option_map suc (position_with c es)))
+      go true h = ap (λ (x : ℕ). Some x) z
+        where
+          z : i ≡ i + 0
+          z = omega arith
+      go false h = h ∙ sym (shifted_more i (position_with c es))
 
-  pub position_more : (get_or es i no_entry).index ≢ c → shifted i (position_with c (drop i es)) ≡ shifted (i + 1) (position_with c (drop (i + 1) es))
-  position_more n =
-      at_drop_more (λ xs. shifted i (position_with c xs)) es i no_entry h
-      ∙ ap (shifted i) (cond-false _ _ _ (ne_eqb (get_or es i no_entry).index c n)) ∙ shifted_more i (position_with c (drop (i + 1) es))
+  pub position_is : (es : List Entry) → cond (ltb (position_or_len lists es) (length es)) (Some (position_or_len lists es)) None ≡ position_with c es
+  position_is es = position_from-zero lists es ∙ position_at es 0 ∙ sym (shifted_zero (position_with c es))
 
-  pub times_hit : (get_or es i no_entry).index ≡ c → times c (map slot_of (drop i es)) ≡ 1 + times c (map slot_of (drop (i + 1) es))
-  times_hit e =
-      at_drop_more (λ xs. times c (map slot_of xs)) es i no_entry h
-      ∙ ap (λ (x : ℕ). x + times c (map slot_of (drop (i + 1) es))) (cond-true _ _ _ (eq-eqb (get_or es i no_entry).index c e))
+  pub count_is : (es : List Entry) → length (filter lists es) ≡ times c (map slot_of es)
+  count_is [] = refl
+  count_is (e ∷ es) = go (eqb e.index c) (count_is es)
+    where
+      go : (t : Bool) → length (filter lists es) ≡ times c (map slot_of es) → length (cond t (e ∷ filter lists es) (filter lists es)) ≡ cond t 1 0 + times c (map slot_of es)
+      go true h = omega arith
+      go false h = omega arith
 
-  pub times_more : (get_or es i no_entry).index ≢ c → times c (map slot_of (drop i es)) ≡ 0 + times c (map slot_of (drop (i + 1) es))
-  times_more n =
-      at_drop_more (λ xs. times c (map slot_of xs)) es i no_entry h
-      ∙ ap (λ (x : ℕ). x + times c (map slot_of (drop (i + 1) es))) (cond-false _ _ _ (ne_eqb (get_or es i no_entry).index c n))
+  pub nth_is : (es : List Entry) (i k : ℕ) → k < times c (map slot_of es)
+      → option.option_map (λ (p : ℕ × Entry). p.0) (slice_get (filter (λ p. lists p.1) (enumerate_from i es)) k) ≡ Some (i + nth c k (map slot_of es))
+  nth_is [] i k h = absurd (omega arith)
+  nth_is (e ∷ es) i k h = go (eqb e.index c) k h (nth_is es (i + 1))
+    where
+      go : (t : Bool) (k : ℕ) → k < cond t 1 0 + times c (map slot_of es)
+          → ((j : ℕ) → j < times c (map slot_of es) → option.option_map (λ (p : ℕ × Entry). p.0) (slice_get (filter (λ p. lists p.1) (enumerate_from (i + 1) es)) j) ≡ Some (i + 1 + nth c j (map slot_of es)))
+          → option.option_map (λ (p : ℕ × Entry). p.0)
+          (slice_get (cond t ((i, e) ∷ filter (λ p. lists p.1) (enumerate_from (i + 1) es)) (filter (λ p. lists p.1) (enumerate_from (i + 1) es))) k)
+          ≡ Some (i + cond t (cond (eqb k 0) 0 (suc (nth c (k - 1) (map slot_of es)))) (suc (nth c k (map slot_of es))))
+      go true zero h f = ap (λ (x : ℕ). Some x) z
+        where
+          z : i ≡ i + 0
+          z = omega arith
+      go true (suc k) h f = f k (omega arith) ∙ ap (λ (x : ℕ). Some x) z
+        where
+          y : suc k - 1 ≡ k
+          y = omega arith
 
-  pub nth_hit : (get_or es i no_entry).index ≡ c → nth c 0 (map slot_of (drop i es)) ≡ 0
-  nth_hit e = at_drop_more (λ xs. nth c 0 (map slot_of xs)) es i no_entry h ∙ cond-true _ _ _ (eq-eqb (get_or es i no_entry).index c e)
+          n : suc k ≢ 0
+          n e = absurd (omega arith)
 
-  pub nth_next : (k : ℕ) → (get_or es i no_entry).index ≡ c → k ≢ 0 → nth c k (map slot_of (drop i es)) ≡ suc (nth c (k - 1) (map slot_of (drop (i + 1) es)))
-  nth_next k e z =
-      at_drop_more (λ xs. nth c k (map slot_of xs)) es i no_entry h
-      ∙ cond-true _ _ _ (eq-eqb (get_or es i no_entry).index c e) ∙ cond-false _ _ _ (ne_eqb k 0 z)
+          z : i + 1 + nth c k (map slot_of es) ≡ i + cond (eqb (suc k) 0) 0 (suc (nth c (suc k - 1) (map slot_of es)))
+          z = omega (arith, cond-false _ 0 (suc (nth c (suc k - 1) (map slot_of es))) (ne_eqb (suc k) 0 n), ap (λ (x : ℕ). nth c x (map slot_of es)) y)
+      go false k h f = f k (omega arith) ∙ ap (λ (x : ℕ). Some x) z
+        where
+          z : i + 1 + nth c k (map slot_of es) ≡ i + suc (nth c k (map slot_of es))
+          z = omega arith
 
-  pub nth_more : (k : ℕ) → (get_or es i no_entry).index ≢ c → nth c k (map slot_of (drop i es)) ≡ suc (nth c k (map slot_of (drop (i + 1) es)))
-  nth_more k n = at_drop_more (λ xs. nth c k (map slot_of xs)) es i no_entry h ∙ cond-false _ _ _ (ne_eqb (get_or es i no_entry).index c n)
-
-pub position_all : (c : ℕ) (es : List Entry) (i : ℕ) → length es ≤ i → shifted i (position_with c (drop i es)) ≡ None
-position_all c es i h = at_drop_all (λ xs. shifted i (position_with c xs)) es i h
-
-pub times_all : (c : ℕ) (es : List Entry) (i : ℕ) → length es ≤ i → times c (map slot_of (drop i es)) ≡ 0
-times_all c es i h = at_drop_all (λ xs. times c (map slot_of xs)) es i h
+-- the number of the item that was found
+pub number_of : {X Y : Type 0} (v : ℕ × X → ℕ × Y) (r : Option (ℕ × X)) (o : Option (ℕ × Y)) (d n m : ℕ) → ((x : ℕ × X) → (v x).0 ≡ x.0) → option.option_map v r ≡ o
+    → option.option_map (λ (p : ℕ × Y). p.0) o ≡ Some n → MatchOption r (m ≡ d) (λ x. m ≡ x.0) → m ≡ n
+number_of v None o d n m f e h k = absurd (let z : None ≡ Some n = ap (option.option_map (λ p. p.0)) e ∙ h in let y : ◌≡◌ {A = ℕ} 0 1 = cc in omega arith)
+number_of v (Some x) o d n m f e h k =
+    let z : Some (v x).0 ≡ Some n = ap (option.option_map (λ p. p.0)) e ∙ h in
+    let y : (v x).0 ≡ n = cc in
+    k ∙ sym (f x) ∙ y
 
 -- the first entry that lists an index
 pub record First (c : ℕ) (es : List Entry) (n : ℕ) : Type 0 where

@@ -5,7 +5,6 @@ use Rattle.std.proofs.lemmas.Bool.{cases_eq}
 use Rattle.placement.specs.Place.{Slot, Strip, no_slot, no_strip, times, strip_with, home}
 use Rattle.plans.specs.Cells.{slot_of}
 use Rattle.plans.specs.Entries.{no_entry, position_with}
-use Rattle.layout.specs.Locating.{entry_at}
 use Rattle.plans.specs.Views.{View, tile_width, tile_height, alone, together, strips_by, strip_at, plan_of}
 use Rattle.plans.specs.declared.entry.Entry.{Entry}
 use Rattle.choices.specs.Choices.{across_of}
@@ -79,10 +78,8 @@ home_by v Row c n f = home-alone v c n f
 home_by v TileComponent c n f = home-alone v c n f
 home_by v MultiY c n f = home-together c n v.entries (tile_width v / across_of v.sampling) (tile_height v) f
 
-pub home_is : (v : View) (i : Interleave) (n : ℕ) → v.interleave ≡ i → position_with (entry_at v n).index v.entries ≡ Some n
-    → strip_at i n ≡ home (plan_of v) (entry_at v n).index
-home_is v i n e p =
-    sym (home_by v v.interleave (entry_at v n).index n (first (entry_at v n).index v.entries n p) ∙ ap (λ (x : Interleave). strip_at x n) e)
+pub home_is : (v : View) (c n : ℕ) → position_with c v.entries ≡ Some n → strip_at v.interleave n ≡ home (plan_of v) c
+home_is v c n p = sym (home_by v v.interleave c n (first c v.entries n p))
 
 pub strip_below : (v : View) (i : Interleave) (n : ℕ) → n < length v.entries → strip_at i n < length (strips_by i v)
 strip_below v Component n l = omega (arith, length-map v.entries (alone v))

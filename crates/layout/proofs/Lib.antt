@@ -9,6 +9,5 @@ pub mod Finding
 pub mod Homes
 pub mod Placing
 pub mod Located
-pub mod Standing
 pub mod Tabling
 pub mod Making

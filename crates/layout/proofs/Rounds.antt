@@ -2,7 +2,7 @@
 use Rattle.std.proofs.Common.{◌≡◌, ℕ, suc, ◌+◌, ◌-◌, ◌*◌, ◌/◌, ◌%◌, ◌^◌, ◌<◌, ◌≤◌, cond, eqb, ◌≢◌, List, [], ◌∷◌, ◌++◌, map, length, get_or, take, drop, sym, refl, ap, ◌∙◌, subst, append-nil, mod-lt, mul-le-mul, div-add-mod', arith}
 use lib.Arith.{digits_lt}
 use Rattle.std.proofs.lemmas.Nat.{div_below}
-use Rattle.std.proofs.lemmas.List.{length-map, get_or-map, at_drop_more, at_drop_all, take_more, take_all, take-append-le}
+use Rattle.std.proofs.lemmas.List.{length-map, get_or-map, at_drop_more, at_drop_all, take_more, take_all, take-map, take-append-le}
 use Rattle.std.proofs.lemmas.Bool.{cond-true, cond-false, le-leb, lt-leb, eq-eqb, ne_eqb}
 use Rattle.layout.proofs.Entries.{none}
 use Rattle.plans.specs.Cells.{cell_of, blocks_of}
@@ -75,15 +75,19 @@ entry_on xs v i h w o p q =
         take_more (map cell_of xs) i (cell_of none) (omega (arith, length-map xs cell_of))
         ∙ ap (λ (x : Cell). take i (map cell_of xs) ++ x ∷ []) (get_or-map cell_of xs i none (cell_of none) h)
 
+-- by all of the entries
+pub all_on : {b : Blocks} {s t : State} (xs : List Entry) (i : ℕ) → length xs ≤ i → Walked b s (take i (map cell_of xs)) t → Walked b s (map cell_of xs) t
+all_on xs i h w = along (take_all i (map cell_of xs) (omega (arith, length-map xs cell_of))) w
+
 -- by some repetitions
 pub turns_on : {b : Blocks} {s t u : State} (es : List Cell) (i j : ℕ) → Walked b s (repeated i es) t → Walked b t (repeated j es) u → Walked b s (repeated (i + j) es) u
 turns_on es i j p q = along (sym (repeated_add i j es)) (on (repeated i es) (repeated j es) p q)
 
-pub turn_on : {b : Blocks} {s t u : State} (xs : List Entry) (i : ℕ) → Walked b s (repeated i (map cell_of xs)) t → Walked b t (take (length xs) (map cell_of xs)) u
+pub turn_on : {b : Blocks} {s t u : State} (xs : List Entry) (i : ℕ) → Walked b s (repeated i (map cell_of xs)) t → Walked b t (map cell_of xs) u
     → Walked b s (repeated (i + 1) (map cell_of xs)) u
 turn_on xs i p q =
     turns_on (map cell_of xs) i 1 p
-    (along (take_all (length xs) (map cell_of xs) (omega (arith, length-map xs cell_of)) ∙ sym (append-nil (map cell_of xs))) q)
+    (along (sym (append-nil (map cell_of xs))) q)
 
 -- so many, by another name
 pub turns_are : {b : Blocks} {s t : State} (es : List Cell) (i j : ℕ) → i ≡ j → Walked b s (repeated i es) t → Walked b s (repeated j es) t
@@ -167,7 +171,7 @@ word_at : {b : Blocks} {s t : State} (es : List Cell) (n : ℕ) (d : Cell) (f : 
 word_at {b} es n d f w h p o q z = cc (stepwise.blocked-at (blocks_of b) es 0 0 n d h)
 
 pub block_word_is : {b : Blocks} {s t u : State} (xs : List Entry) (count r c f : ℕ) (w : Word) → r < count → c < length xs
-    → Walked b origin (repeated r (map cell_of xs)) s → Walked b s (take c (map cell_of xs)) t
+    → Walked b origin (repeated r (map cell_of xs)) s → Walked b s (map cell_of (take c xs)) t
     → Opened b t (get_or xs c none).depth.0 u
     → f ≡ total (blocks_of b) (u.bits.0 + (get_or xs c none).depth.0) (drop (r * length xs + c + 1) (repeated count (map cell_of xs)))
     → w ≡ block_word (blocks_of b) u.block u.bits.0 f (get_or xs c none).depth.0
@@ -186,7 +190,7 @@ block_word_is {b} {s} {t} {u} xs count r c f w hr hc p q =
     front = cc (length-map xs cell_of, before count r c (map cell_of xs) hr (omega (arith, length-map xs cell_of)))
 
     walk : Walked b origin (take (r * length xs + c) (repeated count (map cell_of xs))) t
-    walk = along (sym front) (on (repeated r (map cell_of xs)) (take c (map cell_of xs)) p q)
+    walk = along (sym front) (on (repeated r (map cell_of xs)) (take c (map cell_of xs)) p (along (sym (take-map cell_of c xs)) q))
 
     entry : get_or (repeated count (map cell_of xs)) (r * length xs + c) (cell_of none) ≡ cell_of (get_or xs c none)
     entry =

@@ -1,6 +1,6 @@
 -- Lines without blocks: what the code's steps come to.
 use Rattle.std.proofs.Common.{◌≡◌, ℕ, ◌+◌, ◌-◌, ◌*◌, ◌<◌, Bool, ◌≢◌, List, map, length, get_or, take, ap, ◌∙◌, arith}
-use Rattle.std.proofs.lemmas.List.{get_or-map, length-map, take_all}
+use Rattle.std.proofs.lemmas.List.{get_or-map, length-map, take_all, take-map}
 use Rattle.std.proofs.lemmas.List.Sums.{fold_more}
 use Rattle.std.proofs.lemmas.Bool.{cond-false, ne_eqb}
 use Rattle.layout.proofs.Entries.{none}
@@ -29,7 +29,7 @@ start_is es first second r z e g =
     cc (ends es r)
 
 pub word_is : (little : Bool) (xs : List Entry) (count r c start p : ℕ) (w : Word) → r < count → c < length xs
-    → start ≡ packed_end 0 (repeated r (map cell_of xs)) → p ≡ packed_end start (take c (map cell_of xs)) → w ≡ packed_word little p (cell_of (get_or xs c none))
+    → start ≡ packed_end 0 (repeated r (map cell_of xs)) → p ≡ packed_end start (map cell_of (take c xs)) → w ≡ packed_word little p (cell_of (get_or xs c none))
     → w ≡ get_or (packed little 0 (repeated count (map cell_of xs))) (r * length xs + c) nowhere
 word_is little xs count r c start p w hr hc e f g =
     let l : c < length (map cell_of xs) = omega (arith, length-map xs cell_of) in
@@ -39,4 +39,5 @@ word_is little xs count r c start p w hr hc e f g =
       ends (map cell_of xs) r,
       strides.word little (map cell_of xs) count r c hr l,
       length-map xs cell_of,
+      take-map cell_of c xs,
     )

@@ -1,5 +1,6 @@
 -- Sums of what comes before.
-use Rattle.std.proofs.Common.{◌≡◌, ℕ, ◌+◌, ◌*◌, ◌≤◌, length, sym, ap, ◌∙◌, add-one, arith}
+use Rattle.std.proofs.Common.{◌≡◌, ℕ, zero, suc, ◌+◌, ◌*◌, ◌≤◌, length, ap, ◌∙◌, arith}
+use Rattle.std.proofs.Math.Nat.{mul-add}
 use Rattle.std.proofs.lemmas.List.{length-map}
 use Rattle.choices.specs.declared.choice.Interleave.{Interleave}
 use Rattle.choices.specs.declared.choice.Interleave.TheVariants.{Component, Pixel, Mixed, Row, TileComponent, MultiY}
@@ -15,9 +16,7 @@ groups_few v f Row = omega (arith, f.few, length-map v.entries (alone v))
 groups_few v f TileComponent = omega (arith, f.few, length-map v.entries (alone v))
 groups_few v f MultiY = omega arith
 
--- one turn of a loop that sums
-pub sum_more : (f : ℕ → ℕ) (s a h b : ℕ) → s ≡ summed f h → s ≤ h * b → a ≡ f h → a ≤ b → (s + a ≡ summed f (h + 1)) × (s + a ≤ (h + 1) * b)
-sum_more f s a h b p q r l = (
-  ap (λ (x : ℕ). x + a) p ∙ ap (λ (x : ℕ). summed f h + x) r ∙ sym (ap (summed f) (add-one h)),
-  omega arith,
-)
+-- so many times each
+pub summed_times : (t : ℕ) (f : ℕ → ℕ) (n : ℕ) → t * summed f n ≡ summed (λ h. t * f h) n
+summed_times t f zero = omega arith
+summed_times t f (suc n) = mul-add t (summed f n) (f n) ∙ ap (λ (x : ℕ). x + t * f n) (summed_times t f n)

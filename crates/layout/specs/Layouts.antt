@@ -9,7 +9,7 @@ use Rattle.plans.specs.Views.{View, strip_at, order_of, plan_of}
 use Rattle.layout.specs.declared.layout.Layout.{Layout}
 
 abbrev pub shown : Layout → View
-shown l = view_of l.parts
+shown l = view_of l.frame.parts
 
 abbrev pub shown_by : Result Layout Fault → Result View Fault
 shown_by = result.result_map_both shown (λ f. f)

@@ -1,6 +1,10 @@
 pub mod Coordinates
+pub mod Finds
+pub mod Groups
 pub mod Layouts
 pub mod Locating
+pub mod Once
+pub mod Orders
 pub mod Parts
 pub mod Starting
 pub mod Walk

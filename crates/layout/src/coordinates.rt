@@ -1,85 +1,108 @@
 // A place by its line: which tile, group and line hold it, and in the line which repetition and slot of the cycle.
 ghost use Rattle.std.specs.Prelude.{◌≡◌, ◌<◌, ◌≤◌, Some};
-ghost use Rattle.placement.specs.Place.{home, often, nth, strip, Valid};
-ghost use Rattle.layout.specs.Coordinates.{Grouped, Stands};
+ghost use Rattle.std.proofs.Props.{props};
+ghost use Rattle.placement.specs.Place.{home, often, nth, strip, word_of, Valid};
+ghost use Rattle.layout.specs.Layouts.{shown};
+ghost use Rattle.layout.specs.Words.{word_in};
 ghost use Rattle.plans.specs.Entries.{position_with};
-ghost use Rattle.layout.specs.Locating.{entry_at};
-ghost use Rattle.layout.specs.Parts.{view_of, Held};
 ghost use Rattle.plans.specs.Views.{plan_of};
 
 use crate::find::{occurrence, occurrences};
-use crate::group::{Group, cycle, group_at, group_number};
-use crate::parts::Parts;
+use crate::group::Group;
+use crate::layout::Layout;
+use crate::starts::LineAt;
+use crate::word::Word;
 use placement::Place;
 
 #[derive(Clone, Copy)]
-pub(crate) struct Coordinates {
+pub(crate) struct Coordinates<'a> {
     pub tile: u64,
     pub number: usize,
-    pub group: Group,
+    pub group: Group<'a>,
     pub row: u64,
     pub turn: u64,
     pub slot: usize,
 }
 
-// The group of the entry at a position, which is the first to list its index.
-pub(crate) fn home_of(parts: &Parts, position: usize) -> usize
-    requires held { Held parts.now }
-    requires first { position_with (entry_at (view_of parts.now) position).index (view_of parts.now).entries ≡ Some position }
-    ensures { result ≡ home (plan_of (view_of parts.now)) (entry_at (view_of parts.now) position).index }
-{
-    group_number(parts.interleave, position)
+// A place that the frame has, and the position of the first entry that lists its component.
+#[derive(Clone, Copy)]
+pub(crate) struct Found<'a> {
+    pub layout: &'a Layout,
+    pub position: usize,
+    pub place: Place,
+    ghost first: { position_with place.index (shown layout.now).entries ≡ Some position } by { Prim.hlevel props },
+    ghost valid: { Valid (plan_of (shown layout.now)) place },
 }
 
-// How often the place's component stands in the cycle of its group.
-fn often_in(parts: &Parts, group: Group, place: Place) -> u64
-    requires held { Held parts.now }
-    requires group { Grouped (view_of parts.now) place group }
-    ensures is { result ≡ often (plan_of (view_of parts.now)) place.index }
-    ensures few { result ≤ 16 }
-{
-    occurrences(cycle(parts, group), place.index)
-}
+impl<'a> Found<'a> {
+    ghost use Rattle.layout.specs.Coordinates.{Grouped, Stands};
 
-// The slot in which the component stands for the k-th time.
-fn slot_in(parts: &Parts, group: Group, place: Place, k: u64) -> usize
-    requires held { Held parts.now }
-    requires group { Grouped (view_of parts.now) place group }
-    requires inside { k < often (plan_of (view_of parts.now)) place.index }
-    ensures { result ≡ nth place.index k (strip (plan_of (view_of parts.now)) (home (plan_of (view_of parts.now)) place.index)).cycle }
-{
-    occurrence(cycle(parts, group), place.index, k)
-}
-
-fn coordinates_in(parts: &Parts, number: usize, group: Group, place: Place) -> Coordinates
-    requires held { Held parts.now }
-    requires number { number ≡ home (plan_of (view_of parts.now)) place.index }
-    requires group { Grouped (view_of parts.now) place group }
-    requires valid { Valid (plan_of (view_of parts.now)) place }
-    ensures { Stands (view_of parts.now) place result }
-{
-    let often = often_in(parts, group, place);
-    let wide = group.count * often;
-    let column = place.column % wide;
-    let slot = slot_in(parts, group, place, column % often);
-    Coordinates {
-        tile: place.row / group.rows * parts.tile_columns + place.column / wide,
-        number,
-        group,
-        row: place.row % group.rows,
-        turn: column / often,
-        slot,
+    // The group of the place's component.
+    fn number(&self) -> usize
+        ensures { result ≡ home (plan_of (shown self.now.layout.now)) self.now.place.index }
+    {
+        self.layout.frame.group_number(self.position)
     }
-}
 
-// The place's component is listed first at the position.
-pub(crate) fn coordinates_of(parts: &Parts, position: usize, place: Place) -> Coordinates
-    requires held { Held parts.now }
-    requires first { position_with place.index (view_of parts.now).entries ≡ Some position }
-    requires valid { Valid (plan_of (view_of parts.now)) place }
-    ensures { Stands (view_of parts.now) place result }
-{
-    let number = home_of(parts, position);
-    let group = group_at(parts, number);
-    coordinates_in(parts, number, group, place)
+    // How often the place's component stands in the cycle of its group.
+    fn often(&self, group: Group) -> u64
+        requires { Grouped (shown self.now.layout.now) self.now.place group }
+        ensures is { result ≡ often (plan_of (shown self.now.layout.now)) self.now.place.index }
+        ensures few { result ≤ 16 }
+    {
+        occurrences(group.line.cycle, self.place.index)
+    }
+
+    // The slot in which the component stands for the k-th time.
+    fn slot(&self, group: Group, k: u64) -> usize
+        requires group { Grouped (shown self.now.layout.now) self.now.place group }
+        requires inside { k < often (plan_of (shown self.now.layout.now)) self.now.place.index }
+        ensures { result ≡ nth self.now.place.index k (strip (plan_of (shown self.now.layout.now)) (home (plan_of (shown self.now.layout.now)) self.now.place.index)).cycle }
+    {
+        occurrence(group.line.cycle, self.place.index, k)
+    }
+
+    fn coordinates_in(&self, number: usize, group: Group<'a>) -> Coordinates<'a>
+        requires number { number ≡ home (plan_of (shown self.now.layout.now)) self.now.place.index }
+        requires group { Grouped (shown self.now.layout.now) self.now.place group }
+        ensures { Stands (shown self.now.layout.now) self.now.place result }
+    {
+        let place = self.place;
+        let often = self.often(group);
+        let wide = group.line.count * often;
+        let column = place.column % wide;
+        let slot = self.slot(group, column % often);
+        let columns = self.layout.frame.parts.tile_columns;
+        Coordinates {
+            tile: place.row / group.rows * columns + place.column / wide,
+            number,
+            group,
+            row: place.row % group.rows,
+            turn: column / often,
+            slot,
+        }
+    }
+
+    fn coordinates(&self) -> Coordinates<'a>
+        ensures { Stands (shown self.now.layout.now) self.now.place result }
+    {
+        let number = self.number();
+        let group = self.layout.frame.group_at(number);
+        self.coordinates_in(number, group)
+    }
+
+    // The word of the place.
+    pub(crate) fn word(&self) -> Word
+        ensures is { word_in result ≡ word_of (plan_of (shown self.now.layout.now)) self.now.place }
+        ensures small { result.size.0 ≤ 9 }
+    {
+        let at = self.coordinates();
+        let line = LineAt {
+            layout: self.layout,
+            tile: at.tile,
+            group: at.number,
+            row: at.row,
+        };
+        at.group.line.word(at.turn, at.slot).moved(line.start())
+    }
 }

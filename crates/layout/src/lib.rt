@@ -6,10 +6,12 @@
 mod blocks;
 mod coordinates;
 mod find;
+mod frame;
 mod group;
 mod layout;
 mod line;
 mod locate;
+mod order;
 mod parts;
 mod starts;
 mod stream;

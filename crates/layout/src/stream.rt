@@ -1,15 +1,26 @@
 // The values of a line without blocks. Each takes the bits that are next free, or has a word to itself that begins
 // at the next whole byte.
-ghost use Rattle.std.specs.Prelude.{◌≡◌, ◌+◌, ◌*◌, ◌/◌, ◌^◌, ◌<◌, ◌≤◌, map, length, take, slice_index_or};
+ghost use Rattle.std.specs.Prelude.{◌≡◌, ◌+◌, ◌*◌, ◌/◌, ◌^◌, ◌<◌, ◌≤◌, map, length, slice_index_or};
 ghost use Rattle.plans.specs.Cells.{cell_of};
-ghost use Rattle.layout.specs.Words.{word_in};
 ghost use Rattle.plans.specs.Fit.{Narrow, Streams};
+ghost use Rattle.layout.specs.Once.{streams_once};
+ghost use Rattle.layout.specs.Words.{word_in};
 ghost use Rattle.placement.specs.Line.{repeated};
 ghost use Rattle.placement.specs.Pack.{packed, packed_word, packed_end, after, nowhere};
 
 use crate::units::{bits_of, whole_bytes};
 use crate::word::Word;
 use plans::{Bits, Bytes, Entry};
+
+// A cycle of entries, so many times over.
+#[derive(Clone, Copy)]
+pub(crate) struct Stream<'a> {
+    pub little: bool,
+    pub cycle: &'a [Entry],
+    pub count: u64,
+    ghost fits: { Streams cycle.now } by { streams_once cycle.now },
+    ghost few: { count ≤ 32768 },
+}
 
 // The bytes that hold so many bits.
 fn bytes_for(bits: Bits) -> Bytes
@@ -62,56 +73,52 @@ fn free_after(free: Bits, e: Entry) -> Bits
     }
 }
 
-// The next free bit after the first `n` entries.
-fn bits_after(free: Bits, cycle: &[Entry], n: usize) -> Bits
-    requires inside { n ≤ length cycle.now }
-    requires fits { Streams cycle.now }
+// The next free bit after all of the entries.
+fn free_after_all(free: Bits, entries: &[Entry]) -> Bits
+    requires fits { Streams entries.now }
     requires low { free.0 < 2 ^ 29 }
-    ensures is { result.0 ≡ packed_end free.0 (take n (map cell_of cycle.now)) }
-    ensures near { result.0 ≤ free.0 + 71 * n }
+    ensures is { result.0 ≡ packed_end free.0 (map cell_of entries.now) }
+    ensures near { result.0 ≤ free.0 + 71 * length entries.now }
 {
     let mut at = free;
-    for i in 0..n {
-        at = free_after(at, cycle[i]);
+    for entry in entries {
+        at = free_after(at, *entry);
     }
     at
 }
 
-// The next free bit before the repetition `turn`. A run is not walked: each repetition but the first takes as many
-// bits as the second.
-fn start_of(cycle: &[Entry], turn: u64) -> Bits
-    requires fits { Streams cycle.now }
-    requires few { turn ≤ 32768 }
-    ensures is { result.0 ≡ packed_end 0 (repeated turn (map cell_of cycle.now)) }
-    ensures near { result.0 < 2 ^ 26 }
-{
-    let first = bits_after(Bits(0), cycle, cycle.len());
-    let second = bits_after(first, cycle, cycle.len());
-    if turn == 0 {
-        Bits(0)
-    } else {
-        Bits(first.0 + (turn - 1) * (second.0 - first.0))
+impl Stream<'_> {
+    // The next free bit before the repetition `turn`. A run is not walked: each repetition but the first takes as many
+    // bits as the second.
+    fn start_of(&self, turn: u64) -> Bits
+        requires { turn ≤ 32768 }
+        ensures is { result.0 ≡ packed_end 0 (repeated turn (map cell_of self.now.cycle.now)) }
+        ensures near { result.0 < 2 ^ 26 }
+    {
+        let first = free_after_all(Bits(0), self.cycle);
+        let second = free_after_all(first, self.cycle);
+        if turn == 0 {
+            Bits(0)
+        } else {
+            Bits(first.0 + (turn - 1) * (second.0 - first.0))
+        }
     }
-}
 
-// The word of the entry `slot` in the repetition `turn`.
-pub(crate) fn stream_word(little: bool, cycle: &[Entry], count: u64, turn: u64, slot: usize) -> Word
-    requires fits { Streams cycle.now }
-    requires few { count ≤ 32768 }
-    requires turn { turn < count }
-    requires slot { slot < length cycle.now }
-    ensures is { word_in result ≡ slice_index_or (packed little 0 (repeated count (map cell_of cycle.now))) (turn * length cycle.now + slot) nowhere }
-    ensures near { (result.first.0 ≤ 2 ^ 27) × (result.size.0 ≤ 9) }
-{
-    let free = bits_after(start_of(cycle, turn), cycle, slot);
-    word_after(little, free, cycle[slot])
-}
+    // The word of the entry `slot` in the repetition `turn`.
+    pub(crate) fn word(&self, turn: u64, slot: usize) -> Word
+        requires turn { turn < self.now.count }
+        requires slot { slot < length self.now.cycle.now }
+        ensures is { word_in result ≡ slice_index_or (packed self.now.little 0 (repeated self.now.count (map cell_of self.now.cycle.now))) (turn * length self.now.cycle.now + slot) nowhere }
+        ensures near { (result.first.0 ≤ 2 ^ 27) × (result.size.0 ≤ 9) }
+    {
+        let free = free_after_all(self.start_of(turn), &self.cycle[..slot]);
+        word_after(self.little, free, self.cycle[slot])
+    }
 
-pub(crate) fn stream_bytes(cycle: &[Entry], count: u64) -> Bytes
-    requires fits { Streams cycle.now }
-    requires few { count ≤ 32768 }
-    ensures is { result.0 ≡ (packed_end 0 (repeated count (map cell_of cycle.now)) + 7) / 8 }
-    ensures near { result.0 ≤ 2 ^ 27 }
-{
-    bytes_for(start_of(cycle, count))
+    pub(crate) fn bytes(&self) -> Bytes
+        ensures is { result.0 ≡ (packed_end 0 (repeated self.now.count (map cell_of self.now.cycle.now)) + 7) / 8 }
+        ensures near { result.0 ≤ 2 ^ 27 }
+    {
+        bytes_for(self.start_of(self.count))
+    }
 }

@@ -1,15 +1,9 @@
-// What a layout answers.
-ghost use Rattle.std.specs.Prelude.{◌≡◌};
+// What a layout says of a frame, its lines and its tiles.
+ghost use Rattle.std.specs.Prelude.{◌≡◌, cond, length, Some, None, nat_lt};
 ghost use Rattle.layout.specs.Layouts.{shown, line_size, tile_size};
-ghost use Rattle.layout.specs.Locating.{locate_answer};
-ghost use Rattle.plans.specs.Views.{size_of};
+ghost use Rattle.plans.specs.Views.{size_of, strip_at};
 
 use super::Layout;
-use crate::group::group_number;
-use crate::locate::{listed, locate_in};
-use crate::sums::{line, tile};
-use fault::Fault;
-use placement::Place;
 use plans::Entry;
 
 impl Layout {
@@ -20,54 +14,49 @@ impl Layout {
         self.size.0
     }
 
-    // The byte of a bit of the place's value, and its number in the byte. Bit 0 of a value is its highest bit, bit 7
-    // of a byte its highest.
-    pub fn locate(&self, place: Place, bit: u64) -> Result<(u64, u8), Fault>
-        ensures { result ≡ locate_answer (shown self.now) place bit }
-    {
-        locate_in(&self.parts, place, bit)
-    }
-
     pub fn width(&self) -> u32
         ensures { result ≡ (shown self.now).width }
     {
-        self.parts.width
+        self.frame.parts.width
     }
 
     pub fn height(&self) -> u32
         ensures { result ≡ (shown self.now).height }
     {
-        self.parts.height
+        self.frame.parts.height
     }
 
     // The table, as it was listed.
     pub fn entries(&self) -> &[Entry]
         ensures { result.now ≡ (shown self.now).entries }
     {
-        listed(&self.parts)
+        self.frame.listed()
+    }
+
+    // The group that has the entry at a position of the list.
+    fn group_of(&self, position: usize) -> Option<usize>
+        ensures { result ≡ cond (nat_lt position (length (shown self.now).entries)) (Some (strip_at (shown self.now).interleave position)) None }
+    {
+        if position < self.frame.parts.count {
+            Some(self.frame.group_number(position))
+        } else {
+            None
+        }
     }
 
     // The bytes of a line that holds the entry at a position of the list.
     pub fn line_size(&self, position: usize) -> Option<u64>
         ensures { result ≡ line_size (shown self.now) position }
     {
-        let parts = &self.parts;
-        if position >= parts.count {
-            return None;
-        }
-        let number = group_number(parts.interleave, position);
-        Some(line(parts, number).0)
+        let group = self.group_of(position)?;
+        Some(self.frame.line(group).0)
     }
 
     // The bytes of a tile that holds the entry at a position of the list; in interleave 4, of a tile of that entry.
     pub fn tile_size(&self, position: usize) -> Option<u64>
         ensures { result ≡ tile_size (shown self.now) position }
     {
-        let parts = &self.parts;
-        if position >= parts.count {
-            return None;
-        }
-        let number = group_number(parts.interleave, position);
-        Some(tile(parts, number).0)
+        let group = self.group_of(position)?;
+        Some(self.frame.tile(group).0)
     }
 }

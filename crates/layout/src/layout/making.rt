@@ -3,16 +3,14 @@ ghost use Rattle.std.specs.Prelude.{◌≡◌, ◌+◌, ◌≤◌, map, length, 
 ghost use Rattle.boxes.specs.Pairs.{type_of};
 ghost use Rattle.configuration.specs.Encoded.{listed as listed_in};
 ghost use Rattle.plans.specs.Entries.{is_chroma, unsettled as unsettled_by, settled_in, entry_for};
-ghost use Rattle.fault.specs.declared.reason.Reason.TheVariants.{FrameSize};
-ghost use Rattle.rules.specs.Rules.{broken};
 ghost use Rattle.layout.specs.Layouts.{shown, shown_by};
 ghost use Rattle.layout.specs.Locating.{Apart};
 ghost use Rattle.layout.specs.Parts.{view_of};
 ghost use Rattle.plans.specs.Views.{packing_for, view_by, layout_answer};
 
 use super::Layout;
+use crate::frame::Frame;
 use crate::parts::Parts;
-use crate::sums::frame_bytes;
 use boxes::{Boxes, Entry as ListedEntry, Flags, Format, Listing, Sampling, Sizes};
 use fault::{Fault, Layer, Reason};
 use plans::{Bits, Blocks, Bytes, Entry, Packing};
@@ -20,6 +18,9 @@ use rules::check;
 
 // The bytes of the largest frame.
 const LARGEST: u128 = 4_294_967_295;
+
+// The place of a fault that no single entry has.
+const WHOLE_LIST: u64 = 255;
 
 const BLANK: Entry = Entry {
     index: 0,
@@ -82,8 +83,8 @@ fn table_of(
     ensures { take (length entries.now) result ≡ map (entry_for (type_of boxes.now) sampling width height) entries.now }
 {
     let mut table = [BLANK; 16];
-    for i in 0..entries.len() {
-        table[i] = unsettled(boxes, &entries[i]);
+    for (i, entry) in entries.iter().enumerate() {
+        table[i] = unsettled(boxes, entry);
         settle(&mut table[i], sampling, width, height);
     }
     table
@@ -134,17 +135,6 @@ fn parts_of(boxes: &Boxes, listing: &Listing, width: u32, height: u32) -> Parts
     }
 }
 
-// A frame of more bytes than 32 bits count.
-fn too_large() -> Fault
-    ensures { result ≡ broken FrameSize }
-{
-    Fault {
-        reason: Reason::FrameSize,
-        layer: Layer::Configuration,
-        place: 255,
-    }
-}
-
 impl Layout {
     pub fn new(boxes: &Boxes, width: u32, height: u32) -> Result<Layout, Fault>
         ensures view { shown_by result ≡ layout_answer boxes.now width height }
@@ -152,12 +142,16 @@ impl Layout {
     {
         check(boxes, width, height)?;
         let listing = boxes.configuration.listing();
-        let parts = parts_of(boxes, &listing, width, height);
-        let size = frame_bytes(&parts);
+        let frame = Frame {
+            parts: parts_of(boxes, &listing, width, height),
+        };
+        let size = frame.frame_bytes();
         if size > LARGEST {
-            return Err(too_large());
+            return Err(Layer::Configuration.refuses(Reason::FrameSize, WHOLE_LIST));
         }
-        let size = Bytes(size as u64);
-        Ok(Layout { parts, size })
+        Ok(Layout {
+            frame,
+            size: Bytes(size as u64),
+        })
     }
 }

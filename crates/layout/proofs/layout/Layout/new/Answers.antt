@@ -13,6 +13,7 @@ use Rattle.plans.proofs.Deriving.{facts_of}
 use Rattle.layout.proofs.Located.{apart}
 use Rattle.layout.proofs.Making.{accepted_by, too_large, small}
 use Rattle.layout.proofs.layout.Layout.new.Goals as goal
+use Rattle.layout.proofs.layout.Layout.new.Goals.{After-parts_of}
 
 -- the parts show the view of the boxes, which the rules accept
 view : (b : Boxes) (w h : ℕ) (l : Listing) (p : Parts) → l ≡ listing_for b.configuration → view_of p ≡ view_by (type_of b) l w h → view_of p ≡ view_for b w h
@@ -23,21 +24,22 @@ accepted : (b : Boxes) (w h : ℕ) (l : Listing) (p : Parts) → l ≡ listing_f
 accepted b w h l p e f few k =
     subst Accepted (sym (view b w h l p e f)) (accepted_by b w h (subst (λ (x : Listing). length (listed x) ≤ 16) e few) (sym k))
 
-pub frame_bytes-size-requires : goal.frame_bytes-size-requires
-frame_bytes-size-requires c =
-    record {
-      facts = facts_of (view_of c.parts_of-parts.result)
-          (accepted c.args.boxes.now c.args.width c.args.height c.listing-listing.result c.parts_of-parts.result c.listing-listing.ensures c.parts_of-parts.ensures.view
-          c.parts_of-parts.ensures.few c.in_ok-check.ensures);
-      counted = c.parts_of-parts.ensures.counted;
-    }
+-- of the parts that were made, where the rules accept the boxes
+made : (c : After-parts_of) → Accepted (view_of c.parts_of.result)
+made c =
+    accepted c.args.boxes.now c.args.width c.args.height c.listing-listing.result c.parts_of.result c.listing-listing.ensures c.parts_of.ensures.view c.parts_of.ensures.few
+    c.in_ok-check.ensures
+
+pub invariant_of-frame : goal.invariant_of-frame
+invariant_of-frame c =
+    record { facts = facts_of (view_of c.parts_of.result) (made (goal.at.invariant_of-frame c).After-parts_of); counted = c.parts_of.ensures.counted }
 
 pub returns-then-size-gt-LARGEST : goal.returns-then-size-gt-LARGEST
 returns-then-size-gt-LARGEST c =
-    let v = view c.args.boxes.now c.args.width c.args.height c.listing-listing.result c.parts_of-parts.result c.listing-listing.ensures c.parts_of-parts.ensures.view in
+    let v = view c.args.boxes.now c.args.width c.args.height c.listing-listing.result c.parts_of.result c.listing-listing.ensures c.parts_of.ensures.view in
     record {
       view =
-          ap (λ (w : Fault). Err w) c.too_large.ensures
+          ap (λ (w : Fault). Err w) c.refuses.ensures
           ∙ sym (too_large c.args.boxes.now c.args.width c.args.height (sym c.in_ok-check.ensures) (omega (arith, c.if-size-gt-LARGEST.true, c.frame_bytes-size.ensures, ap size_of v)));
       apart = tt;
     }
@@ -45,22 +47,19 @@ returns-then-size-gt-LARGEST c =
 pub invariant_of-result : goal.invariant_of-result
 invariant_of-result c =
     record {
-      accepted = ∣ accepted c.args.boxes.now c.args.width c.args.height c.listing-listing.result c.parts_of-parts.result c.listing-listing.ensures c.parts_of-parts.ensures.view
-          c.parts_of-parts.ensures.few c.in_ok-check.ensures ∣₁;
-      counted = c.parts_of-parts.ensures.counted;
+      accepted = ∣ made (goal.at.invariant_of-result c).After-parts_of ∣₁;
       sized = c.frame_bytes-size.ensures;
       short = c.if-size-gt-LARGEST.false;
     }
 
 pub returns : goal.returns
 returns c =
-    let v = view c.args.boxes.now c.args.width c.args.height c.listing-listing.result c.parts_of-parts.result c.listing-listing.ensures c.parts_of-parts.ensures.view in
+    let v = view c.args.boxes.now c.args.width c.args.height c.listing-listing.result c.parts_of.result c.listing-listing.ensures c.parts_of.ensures.view in
     record {
       view =
           ap (λ (x : View). Ok x) v
           ∙ sym (small c.args.boxes.now c.args.width c.args.height (sym c.in_ok-check.ensures) (omega (arith, c.if-size-gt-LARGEST.false, c.frame_bytes-size.ensures, ap size_of v)));
-      apart = apart (view_of c.parts_of-parts.result)
-          (facts_of (view_of c.parts_of-parts.result)
-          (accepted c.args.boxes.now c.args.width c.args.height c.listing-listing.result c.parts_of-parts.result c.listing-listing.ensures c.parts_of-parts.ensures.view
-          c.parts_of-parts.ensures.few c.in_ok-check.ensures));
+      apart = apart (view_of c.parts_of.result)
+          (facts_of (view_of c.parts_of.result)
+          (made (goal.at.returns c).After-parts_of));
     }

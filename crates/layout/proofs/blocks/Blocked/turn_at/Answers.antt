@@ -1,0 +1,50 @@
+use Rattle.std.proofs.Common.{◌+◌, ◌-◌, ◌%◌, ◌≤◌, map, mul-le-mul, arith}
+use Rattle.plans.specs.Cells.{cell_of}
+use Rattle.layout.proofs.Rounds.{Leap, far, leap, turn_more, turns_are, turns_on}
+use Rattle.layout.proofs.blocks.Blocked.turn_at.Goals as goal
+use Rattle.layout.proofs.blocks.Blocked.turn_at.Goals.{Then-s-first}
+
+pub rounds-s-requires : goal.rounds-s-requires
+rounds-s-requires c =
+    record {
+      room = c.loop-before.invariant.0;
+      low = omega (arith, c.args.self.now.fits.short, far c.args.self.now.cycle.now (c.min-lead.result + c.loop-before.before) (omega arith) c.args.self.now.fits.short c.loop-before.invariant.1);
+    }
+
+leaps : (c : Then-s-first)
+    → Leap c.args.self.now.block c.args.self.now.cycle.now c.min-lead.result (c.args.turn - c.min-lead.result) (c.loop-before.before + 1) c.rounds-first.result c.rounds-s.result
+leaps c =
+    leap c.args.self.now.cycle.now c.min-lead.result (c.args.turn - c.min-lead.result) c.loop-before.before c.args.self.now.fits.short (omega arith)
+    c.rounds-first.ensures.is c.loop-before.invariant.1 c.rounds-s.ensures.is c.if-s-first.true
+
+pub overflow_sub-skipped : goal.overflow_sub-skipped
+overflow_sub-skipped c = (leaps (goal.at.overflow_sub-skipped c).Then-s-first).up
+
+pub overflow_mul-skipped : goal.overflow_mul-skipped
+overflow_mul-skipped c = record { fits = omega (arith, (leaps (goal.at.overflow_mul-skipped c).Then-s-first).low) }
+
+pub overflow_add-on : goal.overflow_add-on
+overflow_add-on c = record { fits = omega (arith, (leaps (goal.at.overflow_add-on c).Then-s-first).low) }
+
+pub rounds-requires : goal.rounds-requires
+rounds-requires c =
+    let l = leaps (goal.at.rounds-requires c).Then-s-first in
+    let h : (c.args.turn - c.min-lead.result) % (c.loop-before.before + 1) ≤ 32768 = omega (arith, l.rest) in
+    record { room = c.rounds-first.ensures.room; low = omega (arith, l.low, mul-le-mul h c.args.self.now.fits.short) }
+
+pub returns-then-s-first : goal.returns-then-s-first
+returns-then-s-first c =
+    let l = leaps (goal.at.returns-then-s-first c).Then-s-first in
+    let w =
+    turns_are (map cell_of c.args.self.now.cycle.now) _ c.args.turn (omega (arith, l.rest))
+    (turns_on (map cell_of c.args.self.now.cycle.now) _ _ l.walk c.rounds.ensures.is) in
+    record { is = w; room = c.rounds.ensures.room; low = far c.args.self.now.cycle.now c.args.turn c.requires c.args.self.now.fits.short w }
+
+pub loop-before-preserved : goal.loop-before-preserved
+loop-before-preserved c =
+    (c.rounds-s.ensures.room, turn_more (map cell_of c.args.self.now.cycle.now) c.min-lead.result c.loop-before.before c.loop-before.invariant.1 c.rounds-s.ensures.is)
+
+pub returns : goal.returns
+returns c =
+    let w = turns_are (map cell_of c.args.self.now.cycle.now) (c.min-lead.result + c.loop-before.before) c.args.turn (omega (arith, c.loop-before.invariant.0)) c.loop-before.invariant.1 in
+    record { is = w; room = c.loop-before.invariant.0; low = far c.args.self.now.cycle.now c.args.turn c.requires c.args.self.now.fits.short w }
