@@ -3,7 +3,8 @@ ghost use Rattle.std.specs.Prelude.{◌≤◌, map, length, IfOk, string_bytes};
 ghost use Rattle.reconcile.specs.Lanes.{Named};
 
 use crate::failure::Failure;
-use std::alloc::{AllocError, Global};
+use std::alloc::Global;
+use thiserror::Error;
 
 // Stands between the words of two lanes.
 const SEPARATOR: &str = "--";
@@ -12,6 +13,21 @@ const SEPARATOR: &str = "--";
 const FRAME: &str = "frame=";
 
 const CUT: &str = "cut=";
+
+// What is wrong with the words of a lane.
+#[derive(Debug, Drop, Error)]
+enum WordError<'a> {
+    #[error("expected WIDTH HEIGHT CONFIGURATION [DEFINITION] [frame=FILE [cut=N]], and -- between two lanes")]
+    Usage,
+    #[error("the width '{0}' is not a number from 0 to 4294967295")]
+    Width(&'a str),
+    #[error("the height '{0}' is not a number from 0 to 4294967295")]
+    Height(&'a str),
+    #[error("'{0}' comes without a frame=FILE before it")]
+    NoFrame(&'a str),
+    #[error("the cut '{0}' is not a number of bytes")]
+    Cut(&'a str),
+}
 
 #[derive(Clone, Copy)]
 pub(crate) struct Frame {
@@ -36,124 +52,75 @@ pub(crate) struct Lane<'a> {
     pub(crate) raw: Option<Raw<'a>>,
 }
 
-fn side_of(heap: Global, number: usize, side: &str, word: &str) -> Result<u32, Failure> {
-    match word.parse::<u32>() {
-        Ok(size) => Ok(size),
-        Err(_) => Err(Failure::Call(format!(in heap;
-            "lane {number}: the {side} '{word}' is not a number from 0 to 4294967295"
-        )?)),
-    }
+fn frame_of<'a>(width: &'a str, height: &'a str) -> Result<Frame, WordError<'a>> {
+    Ok(Frame {
+        width: width.parse().map_err(|_| WordError::Width(width))?,
+        height: height.parse().map_err(|_| WordError::Height(height))?,
+    })
 }
 
-fn frame_of(heap: Global, number: usize, width: &str, height: &str) -> Result<Frame, Failure> {
-    let width = side_of(heap, number, "width", width)?;
-    let height = side_of(heap, number, "height", height)?;
-    Ok(Frame { width, height })
+fn file_of(word: &str) -> Result<&str, WordError<'_>> {
+    word.strip_prefix(FRAME).ok_or(WordError::NoFrame(word))
 }
 
-fn usage(heap: Global, number: usize) -> Result<String, AllocError> {
-    format!(in heap;
-        "lane {number}: expected WIDTH HEIGHT CONFIGURATION [DEFINITION] [frame=FILE [cut=N]], and -- between two lanes"
-    )
+fn cut_of(word: &str) -> Result<usize, WordError<'_>> {
+    let text = word.strip_prefix(CUT).ok_or(WordError::Usage)?;
+    text.parse().map_err(|_| WordError::Cut(text))
 }
 
-fn file_of<'a>(heap: Global, number: usize, word: &'a str) -> Result<&'a str, Failure> {
-    match word.strip_prefix(FRAME) {
-        Some(file) => Ok(file),
-        None => Err(Failure::Call(format!(in heap;
-            "lane {number}: '{word}' comes without a frame=FILE before it"
-        )?)),
-    }
-}
-
-fn cut_of(heap: Global, number: usize, word: &str) -> Result<usize, Failure> {
-    let Some(text) = word.strip_prefix(CUT) else {
-        return Err(Failure::Call(usage(heap, number)?));
+fn raw_of(words: &[String]) -> Result<Option<Raw<'_>>, WordError<'_>> {
+    let (file, cut) = match words {
+        [] => return Ok(None),
+        [frame] => (file_of(frame)?, 0),
+        [frame, cut] => (file_of(frame)?, cut_of(cut)?),
+        _ => return Err(WordError::Usage),
     };
-    match text.parse::<usize>() {
-        Ok(cut) => Ok(cut),
-        Err(_) => Err(Failure::Call(format!(in heap;
-            "lane {number}: the cut '{text}' is not a number of bytes"
-        )?)),
-    }
-}
-
-fn raw_of<'a>(
-    heap: Global,
-    number: usize,
-    words: &'a [String],
-) -> Result<Option<Raw<'a>>, Failure> {
-    match words {
-        [] => Ok(None),
-        [frame] => Ok(Some(Raw {
-            file: file_of(heap, number, frame.as_str())?,
-            cut: 0,
-        })),
-        [frame, cut] => Ok(Some(Raw {
-            file: file_of(heap, number, frame.as_str())?,
-            cut: cut_of(heap, number, cut.as_str())?,
-        })),
-        _ => Err(Failure::Call(usage(heap, number)?)),
-    }
+    Ok(Some(Raw { file, cut }))
 }
 
 // How many words there are before those of the raw frame.
 fn words_of_boxes(words: &[String]) -> usize
     ensures { result ≤ length words.now }
 {
-    for i in 0..words.len() {
-        if words[i].as_str().starts_with(FRAME) || words[i].as_str().starts_with(CUT) {
-            return i;
-        }
-    }
-    words.len()
+    words
+        .iter()
+        .position(|word| word.as_str().starts_with(FRAME) || word.as_str().starts_with(CUT))
+        .unwrap_or(words.len())
 }
 
 // The lane without its raw frame.
-fn lane_of<'a>(heap: Global, number: usize, words: &'a [String]) -> Result<Lane<'a>, Failure>
+fn lane_of<'a>(number: usize, words: &'a [String]) -> Result<Lane<'a>, WordError<'a>>
     ensures { IfOk result (Named number (map string_bytes words.now)) }
 {
-    match words {
-        [width, height, configuration] => Ok(Lane {
-            number,
-            frame: frame_of(heap, number, width.as_str(), height.as_str())?,
-            configuration: configuration.as_str(),
-            definition: None,
-            raw: None,
-        }),
-        [width, height, configuration, definition] => Ok(Lane {
-            number,
-            frame: frame_of(heap, number, width.as_str(), height.as_str())?,
-            configuration: configuration.as_str(),
-            definition: Some(definition.as_str()),
-            raw: None,
-        }),
-        _ => Err(Failure::Call(usage(heap, number)?)),
-    }
+    let (width, height, configuration, definition) = match words {
+        [width, height, configuration] => (width, height, configuration, None),
+        [width, height, configuration, definition] => {
+            (width, height, configuration, Some(definition.as_str()))
+        }
+        _ => return Err(WordError::Usage),
+    };
+    Ok(Lane {
+        number,
+        frame: frame_of(width, height)?,
+        configuration,
+        definition,
+        raw: None,
+    })
 }
 
-fn whole_lane_of<'a>(
-    heap: Global,
-    number: usize,
-    words: &'a [String],
-) -> Result<Lane<'a>, Failure> {
-    let end = words_of_boxes(words);
-    let mut lane = lane_of(heap, number, &words[0..end])?;
-    lane.raw = raw_of(heap, number, &words[end..words.len()])?;
-    Ok(lane)
+fn whole_lane_of<'a>(number: usize, words: &'a [String]) -> Result<Lane<'a>, WordError<'a>> {
+    let (boxes, frame) = words.split_at(words_of_boxes(words));
+    let lane = lane_of(number, boxes)?;
+    let raw = raw_of(frame)?;
+    Ok(Lane { raw, ..lane })
 }
 
 pub(crate) fn lanes_of<'a>(heap: Global, words: &'a [String]) -> Result<Vec<Lane<'a>>, Failure> {
-    let mut lanes = Vec::new(heap);
-    let mut number = 1;
-    let mut start = 0;
-    for i in 0..words.len() {
-        if words[i].as_str() == SEPARATOR {
-            lanes.push(whole_lane_of(heap, number, &words[start..i])?)?;
-            number += 1;
-            start = i + 1;
-        }
-    }
-    lanes.push(whole_lane_of(heap, number, &words[start..words.len()])?)?;
-    Ok(lanes)
+    words
+        .split(|word| word.as_str() == SEPARATOR)
+        .zip(1..)
+        .map(|(words, number)| -> Result<Lane, Failure> {
+            whole_lane_of(number, words).map_err(|wrong| Failure::of_lane(heap, number, &wrong))
+        })
+        .try_collect(heap)
 }

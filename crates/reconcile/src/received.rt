@@ -1,7 +1,17 @@
 // The lanes with the bytes of their files.
 use crate::arguments::{Lane, Raw};
 use crate::failure::Failure;
-use std::fs;
+use std::{fs, io};
+use thiserror::Error;
+
+// What is wrong with the files of a lane.
+#[derive(Debug, Drop, Error)]
+enum FileError<'a> {
+    #[error("cannot read {file}: {error}")]
+    Unreadable { file: &'a str, error: io::Error },
+    #[error("cut={cut} lies past the frame of {len} bytes")]
+    Cut { cut: usize, len: usize },
+}
 
 #[derive(Drop)]
 pub(crate) struct Received<'a> {
@@ -11,42 +21,27 @@ pub(crate) struct Received<'a> {
     pub(crate) raw: Option<Vec<u8>>,
 }
 
-fn bytes_of(rt: &HostRuntime, number: usize, file: &str) -> Result<Vec<u8>, Failure> {
-    match fs::read(rt, file) {
-        Ok(bytes) => Ok(bytes),
-        Err(error) => Err(Failure::Call(format!(in rt.alloc();
-            "lane {number}: cannot read {file}: {error}"
-        )?)),
-    }
+fn bytes_of<'a>(rt: &HostRuntime, file: &'a str) -> Result<Vec<u8>, FileError<'a>> {
+    fs::read(rt, file).map_err(|error| FileError::Unreadable { file, error })
 }
 
 // A frame is at least as long as the part that its ring's end cuts off.
-fn frame_of(rt: &HostRuntime, number: usize, raw: Raw) -> Result<Vec<u8>, Failure> {
-    let bytes = bytes_of(rt, number, raw.file)?;
-    let (cut, len) = (raw.cut, bytes.len());
+fn frame_of<'a>(rt: &HostRuntime, raw: Raw<'a>) -> Result<Vec<u8>, FileError<'a>> {
+    let Raw { file, cut } = raw;
+    let bytes = bytes_of(rt, file)?;
+    let len = bytes.len();
     if cut > len {
-        return Err(Failure::Call(format!(in rt.alloc();
-            "lane {number}: cut={cut} lies past the frame of {len} bytes"
-        )?));
+        return Err(FileError::Cut { cut, len });
     }
     Ok(bytes)
 }
 
-fn receive_one<'a>(rt: &HostRuntime, lane: Lane<'a>) -> Result<Received<'a>, Failure> {
-    let configuration = bytes_of(rt, lane.number, lane.configuration)?;
-    let definition = match lane.definition {
-        Some(file) => Some(bytes_of(rt, lane.number, file)?),
-        None => None,
-    };
-    let raw = match lane.raw {
-        Some(raw) => Some(frame_of(rt, lane.number, raw)?),
-        None => None,
-    };
+fn receive_one<'a>(rt: &HostRuntime, lane: Lane<'a>) -> Result<Received<'a>, FileError<'a>> {
     Ok(Received {
         lane,
-        configuration,
-        definition,
-        raw,
+        configuration: bytes_of(rt, lane.configuration)?,
+        definition: lane.definition.map(|file| bytes_of(rt, file)).transpose()?,
+        raw: lane.raw.map(|raw| frame_of(rt, raw)).transpose()?,
     })
 }
 
@@ -54,9 +49,11 @@ pub(crate) fn receive<'a>(
     rt: &HostRuntime,
     lanes: &[Lane<'a>],
 ) -> Result<Vec<Received<'a>>, Failure> {
-    let mut all = Vec::new(rt.alloc());
-    for lane in lanes {
-        all.push(receive_one(rt, *lane)?)?;
-    }
-    Ok(all)
+    let heap = rt.alloc();
+    lanes
+        .iter()
+        .map(|lane| -> Result<Received, Failure> {
+            receive_one(rt, *lane).map_err(|wrong| Failure::of_lane(heap, lane.number, &wrong))
+        })
+        .try_collect(heap)
 }
