@@ -22,10 +22,10 @@ use std::env;
 fn run(rt: &HostRuntime) -> Result<(), Failure> {
     let heap = rt.alloc();
     let words: Vec<String> = env::args(rt)?.skip(1).collect(heap)?;
-    let lanes = lanes_of(heap, words.as_slice())?;
+    let lanes = lanes_of(heap, &words)?;
     // All files are read before a line is printed, so that there is a whole statement or none.
-    let received = receive(rt, lanes.as_slice())?;
-    for lane in received.iter() {
+    let received = receive(rt, &lanes)?;
+    for lane in &received {
         print_lane(rt, lane)?;
     }
     Ok(())

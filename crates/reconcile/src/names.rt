@@ -3,7 +3,7 @@ ghost use Rattle.std.specs.Prelude.{◌≡◌};
 ghost use Rattle.std.specs.Option.{option_map};
 ghost use Rattle.reconcile.specs.Names.{standard_name};
 
-use std::alloc::{AllocError, Global};
+use std::fmt;
 
 // A component type of the standard.
 fn standard_name(number: u16) -> Option<&'static str>
@@ -31,13 +31,16 @@ fn standard_name(number: u16) -> Option<&'static str>
     }
 }
 
-// The name of a component by its type, where it is defined.
-pub(crate) fn component_name(heap: Global, number: Option<u16>) -> Result<String, AllocError> {
-    let Some(number) = number else {
-        return String::from_str(heap, "not defined");
-    };
-    match standard_name(number) {
-        Some(name) => String::from_str(heap, name),
-        None => format!(in heap; "own type {number:#06x}"),
+// The name of a component by its type, where it is defined. A type of the user's own shows its number.
+#[derive(Clone, Copy)]
+pub(crate) struct Component(pub(crate) Option<u16>);
+
+impl fmt::Display for Component {
+    fn fmt<W: fmt::Write>(&self, f: &mut fmt::Formatter<W>) -> fmt::Result {
+        match (self.0, self.0.and_then(standard_name)) {
+            (Some(_), Some(name)) => f.pad(name),
+            (Some(number), None) => write!(f, "own type {number:#06x}"),
+            (None, _) => f.pad("not defined"),
+        }
     }
 }

@@ -5,51 +5,45 @@ use boxes::Boxes;
 use fault::Fault;
 use std::alloc::{AllocError, Global};
 
-// What came of writing a box to a buffer of its size, with the number of bytes that the write answered.
+// A box that was written to a buffer of its size, with the number of bytes that the write answered.
 #[derive(Clone, Copy)]
-pub(crate) enum Returned {
+pub(crate) enum Written {
     Same(usize),
     Different(usize),
     // There was no box to read, and an empty buffer took what was written.
     Absent(usize),
-    Refused(Fault),
 }
 
-fn compared(answer: Result<usize, Fault>, written: &[u8], read: &[u8]) -> Returned
+fn compared(answer: Result<usize, Fault>, written: &[u8], read: &[u8]) -> Result<Written, Fault>
     ensures { Outcome answer written.now read.now result }
 {
-    match answer {
-        Ok(size) => if written == read {
-            Returned::Same(size)
-        } else {
-            Returned::Different(size)
-        },
-        Err(fault) => Returned::Refused(fault),
-    }
+    let size = answer?;
+    Ok(if written == read {
+        Written::Same(size)
+    } else {
+        Written::Different(size)
+    })
 }
 
 pub(crate) fn configuration_returned(
     heap: Global,
     boxes: &Boxes,
     read: &[u8],
-) -> Result<Returned, AllocError> {
+) -> Result<Result<Written, Fault>, AllocError> {
     let mut out = vec![in heap; 0u8; boxes.configuration.size()]?;
     let answer = boxes.configuration.write(out.as_mut_slice());
     Ok(compared(answer, out.as_slice(), read))
 }
 
-fn absent_returned(boxes: &Boxes) -> Returned {
-    match boxes.write_definition(&mut []) {
-        Ok(size) => Returned::Absent(size),
-        Err(fault) => Returned::Refused(fault),
-    }
+fn absent_returned(boxes: &Boxes) -> Result<Written, Fault> {
+    boxes.write_definition(&mut []).map(Written::Absent)
 }
 
 pub(crate) fn definition_returned(
     heap: Global,
     boxes: &Boxes,
     read: Option<&[u8]>,
-) -> Result<Returned, AllocError> {
+) -> Result<Result<Written, Fault>, AllocError> {
     let (Some(definition), Some(read)) = (&boxes.definition, read) else {
         return Ok(absent_returned(boxes));
     };

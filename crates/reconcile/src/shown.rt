@@ -39,8 +39,8 @@ pub(crate) struct Escaped<'a>(pub(crate) &'a [u8]);
 
 impl fmt::Display for Escaped<'_> {
     fn fmt<W: fmt::Write>(&self, f: &mut fmt::Formatter<W>) -> fmt::Result {
-        for byte in self.0 {
-            let byte = *byte;
+        // The library's escape_ascii has shorter forms, such as \n, where each byte here is shown by its number.
+        for &byte in self.0 {
             if is_printable(byte) && byte != b'\\' {
                 let letter = char::from(byte);
                 write!(f, "{letter}")?;
@@ -59,11 +59,11 @@ pub(crate) struct Word(pub(crate) u32);
 impl fmt::Display for Word {
     fn fmt<W: fmt::Write>(&self, f: &mut fmt::Formatter<W>) -> fmt::Result {
         let word = self.0;
-        let [a, b, c, d] = word.to_be_bytes();
+        let letters = word.to_be_bytes();
         if word == 0 {
             write!(f, "none")
-        } else if is_printable(a) && is_printable(b) && is_printable(c) && is_printable(d) {
-            let (a, b, c, d) = (char::from(a), char::from(b), char::from(c), char::from(d));
+        } else if letters.iter().all(|&letter| is_printable(letter)) {
+            let [a, b, c, d] = letters.map(char::from);
             write!(f, "'{a}{b}{c}{d}'")
         } else {
             write!(f, "{word:#010x}")
@@ -75,5 +75,5 @@ impl fmt::Display for Word {
 fn is_printable(byte: u8) -> bool
     ensures { Decides result ((32 ≤ byte) × (byte ≤ 126)) }
 {
-    byte >= b' ' && byte <= b'~'
+    matches!(byte, b' '..=b'~')
 }

@@ -2,12 +2,13 @@
 use crate::arguments::{Frame, Lane};
 use crate::failure::Failure;
 use crate::layout::print_layout;
-use crate::names::component_name;
+use crate::names::Component;
 use crate::received::Received;
-use crate::returned::{Returned, configuration_returned, definition_returned};
+use crate::returned::{Written, configuration_returned, definition_returned};
 use crate::ringed::same_through_ring;
 use crate::shown::{Alignment, Escaped, Word};
 use boxes::{Boxes, Configuration, Definition, Listing};
+use fault::Fault;
 use rules::check;
 use std::io;
 
@@ -36,11 +37,11 @@ fn print_version(rt: &HostRuntime, configuration: &Configuration, profile: u32) 
     println!(rt; "  version {version}, profile {profile}")
 }
 
-fn print_entries(rt: &HostRuntime, boxes: &Boxes, listing: &Listing) -> Result<(), Failure> {
+fn print_entries(rt: &HostRuntime, boxes: &Boxes, listing: &Listing) -> io::Result<()> {
     println!(rt; "  entry  index  component        bits  format            alignment")?;
     for (i, entry) in listing.entries().iter().enumerate() {
         let index = entry.index;
-        let component = component_name(rt.alloc(), boxes.component_type(index))?;
+        let component = Component(boxes.component_type(index));
         let bits = entry.depth();
         let format = entry.format;
         let alignment = Alignment(entry.align);
@@ -52,32 +53,35 @@ fn print_entries(rt: &HostRuntime, boxes: &Boxes, listing: &Listing) -> Result<(
 }
 
 fn print_uris(rt: &HostRuntime, definition: &Definition) -> io::Result<()> {
-    for i in 0..definition.components().len() {
-        if let Some(uri) = definition.uri(i) {
-            let place = uri.place;
-            let text = Escaped(uri.text);
-            println!(rt; "  URI of component {i}, at byte {place}: \"{text}\"")?;
-        }
+    let count = definition.components().len();
+    for (i, uri) in (0..count).filter_map(|i| Some((i, definition.uri(i)?))) {
+        let place = uri.place;
+        let text = Escaped(uri.text);
+        println!(rt; "  URI of component {i}, at byte {place}: \"{text}\"")?;
     }
     Ok(())
 }
 
-fn print_returned(rt: &HostRuntime, what: &str, returned: Returned) -> io::Result<()> {
+fn print_returned(
+    rt: &HostRuntime,
+    what: &str,
+    returned: Result<Written, Fault>,
+) -> io::Result<()> {
     match returned {
-        Returned::Same(size) => println!(rt;
+        Ok(Written::Same(size)) => println!(rt;
             "  {what} written back: {size} bytes, the same as were read"
         ),
-        Returned::Different(size) => println!(rt;
+        Ok(Written::Different(size)) => println!(rt;
             "  {what} written back: {size} bytes, NOT the same as were read"
         ),
-        Returned::Refused(fault) => println!(rt; "  {what} not written back: {fault}"),
-        Returned::Absent(size) => println!(rt;
+        Ok(Written::Absent(size)) => println!(rt;
             "  {what}: none was read and none is written ({size} bytes, accepted)"
         ),
+        Err(fault) => println!(rt; "  {what} not written back: {fault}"),
     }
 }
 
-fn print_boxes(rt: &HostRuntime, boxes: &Boxes) -> Result<(), Failure> {
+fn print_boxes(rt: &HostRuntime, boxes: &Boxes) -> io::Result<()> {
     let listing = boxes.configuration.listing();
     print_version(rt, &boxes.configuration, listing.profile)?;
     print_entries(rt, boxes, &listing)?;
@@ -113,10 +117,7 @@ fn print_frame(rt: &HostRuntime, frame: &[u8], cut: usize) -> Result<(), Failure
 pub(crate) fn print_lane(rt: &HostRuntime, received: &Received) -> Result<(), Failure> {
     print_head(rt, &received.lane)?;
     let configuration = received.configuration.as_slice();
-    let definition = match &received.definition {
-        Some(bytes) => Some(bytes.as_slice()),
-        None => None,
-    };
+    let definition = received.definition.as_deref();
     match Boxes::read(definition, configuration) {
         Ok(boxes) => {
             print_boxes(rt, &boxes)?;
@@ -128,8 +129,8 @@ pub(crate) fn print_lane(rt: &HostRuntime, received: &Received) -> Result<(), Fa
         }
         Err(fault) => println!(rt; "  {fault}")?,
     }
-    if let (Some(frame), Some(raw)) = (&received.raw, received.lane.raw) {
-        print_frame(rt, frame.as_slice(), raw.cut)?;
+    if let (Some(frame), Some(raw)) = (received.raw.as_deref(), received.lane.raw) {
+        print_frame(rt, frame, raw.cut)?;
     }
     Ok(())
 }
