@@ -4,15 +4,13 @@
 #![tactic(auto)]
 
 #[cfg(test)]
-mod blocks;
+mod answer;
 #[cfg(test)]
-mod buffer;
+mod blocks;
 #[cfg(test)]
 mod depths;
 #[cfg(test)]
 mod dimensions;
-#[cfg(test)]
-mod draft;
 #[cfg(test)]
 mod indexes;
 #[cfg(test)]
@@ -21,8 +19,6 @@ mod interleaving;
 mod order;
 #[cfg(test)]
 mod presence;
-#[cfg(test)]
-mod refusal;
 #[cfg(test)]
 mod sizes;
 #[cfg(test)]

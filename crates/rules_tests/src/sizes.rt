@@ -1,56 +1,60 @@
 // Rule 12: the pixel size, the row align and the tile align.
-use crate::draft::{Draft, Entry, OCTETS, RGB};
-use std::fmt::Display;
+use crate::answer::{refusal_of_all, refused};
+use boxes::Format::Integer;
+use boxes::Interleave::{self, Component, Pixel, Row, TileComponent};
+use fault::Reason::{self, Alignment};
+use std::alloc::Global;
 use std::process::Abort;
 use std::test::*;
+use test_boxes::{Draft, Entry, OCTETS, PLAIN, RGB};
 
-// The interleave, the block size, the pixel size, the row align, the tile align and the number.
-struct Case(u8, u8, u32, u32, u32, u8);
+// The interleave, the block size, the pixel size, the row align, the tile align, and the rule where it is broken.
+struct Case(Interleave, u8, u32, u32, u32, Option<Reason>);
 
 // Eight bits each of R, G and B.
-const PLAIN: [Case; 37] = [
+const OCTET_CASES: [Case; 37] = [
     // without blocks a pixel has three bytes
-    Case(1, 0, 0, 0, 0, 0),
-    Case(1, 0, 1, 0, 0, 12),
-    Case(1, 0, 2, 0, 0, 12),
-    Case(1, 0, 3, 0, 0, 0),
-    Case(1, 0, 4, 0, 0, 0),
-    Case(1, 0, 65_535, 0, 0, 0),
-    Case(1, 0, 65_536, 0, 0, 12),
-    Case(1, 0, 65_539, 0, 0, 12),
-    Case(1, 0, u32::MAX, 0, 0, 12),
+    Case(Pixel, 0, 0, 0, 0, None),
+    Case(Pixel, 0, 1, 0, 0, Some(Alignment)),
+    Case(Pixel, 0, 2, 0, 0, Some(Alignment)),
+    Case(Pixel, 0, 3, 0, 0, None),
+    Case(Pixel, 0, 4, 0, 0, None),
+    Case(Pixel, 0, 65_535, 0, 0, None),
+    Case(Pixel, 0, 65_536, 0, 0, Some(Alignment)),
+    Case(Pixel, 0, 65_539, 0, 0, Some(Alignment)),
+    Case(Pixel, 0, u32::MAX, 0, 0, Some(Alignment)),
     // other interleaves
-    Case(0, 0, 3, 0, 0, 12),
-    Case(3, 0, 3, 0, 0, 12),
-    Case(4, 0, 3, 0, 0, 12),
-    Case(0, 0, 0, 0, 0, 0),
-    Case(3, 0, 0, 0, 0, 0),
-    Case(4, 0, 0, 0, 0, 0),
+    Case(Component, 0, 3, 0, 0, Some(Alignment)),
+    Case(Row, 0, 3, 0, 0, Some(Alignment)),
+    Case(TileComponent, 0, 3, 0, 0, Some(Alignment)),
+    Case(Component, 0, 0, 0, 0, None),
+    Case(Row, 0, 0, 0, 0, None),
+    Case(TileComponent, 0, 0, 0, 0, None),
     // two blocks of two bytes
-    Case(1, 2, 0, 0, 0, 0),
-    Case(1, 2, 2, 0, 0, 12),
-    Case(1, 2, 3, 0, 0, 12),
-    Case(1, 2, 4, 0, 0, 0),
-    Case(1, 2, 5, 0, 0, 12),
-    Case(1, 2, 6, 0, 0, 0),
-    Case(1, 2, 65_534, 0, 0, 0),
-    Case(1, 2, 65_535, 0, 0, 12),
-    Case(1, 2, 65_536, 0, 0, 12),
-    Case(1, 5, 65_535, 0, 0, 0),
+    Case(Pixel, 2, 0, 0, 0, None),
+    Case(Pixel, 2, 2, 0, 0, Some(Alignment)),
+    Case(Pixel, 2, 3, 0, 0, Some(Alignment)),
+    Case(Pixel, 2, 4, 0, 0, None),
+    Case(Pixel, 2, 5, 0, 0, Some(Alignment)),
+    Case(Pixel, 2, 6, 0, 0, None),
+    Case(Pixel, 2, 65_534, 0, 0, None),
+    Case(Pixel, 2, 65_535, 0, 0, Some(Alignment)),
+    Case(Pixel, 2, 65_536, 0, 0, Some(Alignment)),
+    Case(Pixel, 5, 65_535, 0, 0, None),
     // row align
-    Case(1, 0, 0, 1, 0, 0),
-    Case(1, 0, 0, 3, 0, 0),
-    Case(0, 0, 0, 65_536, 0, 0),
-    Case(0, 0, 0, 65_537, 0, 12),
-    Case(1, 0, 3, 65_537, 0, 12),
-    Case(1, 0, 0, u32::MAX, 0, 12),
+    Case(Pixel, 0, 0, 1, 0, None),
+    Case(Pixel, 0, 0, 3, 0, None),
+    Case(Component, 0, 0, 65_536, 0, None),
+    Case(Component, 0, 0, 65_537, 0, Some(Alignment)),
+    Case(Pixel, 0, 3, 65_537, 0, Some(Alignment)),
+    Case(Pixel, 0, 0, u32::MAX, 0, Some(Alignment)),
     // tile align
-    Case(1, 0, 0, 0, 1, 0),
-    Case(0, 0, 0, 0, 1_048_576, 0),
-    Case(0, 0, 0, 0, 1_048_577, 12),
-    Case(1, 0, 3, 0, 1_048_577, 12),
-    Case(1, 0, 0, 0, u32::MAX, 12),
-    Case(1, 0, 3, 65_536, 1_048_576, 0),
+    Case(Pixel, 0, 0, 0, 1, None),
+    Case(Component, 0, 0, 0, 1_048_576, None),
+    Case(Component, 0, 0, 0, 1_048_577, Some(Alignment)),
+    Case(Pixel, 0, 3, 0, 1_048_577, Some(Alignment)),
+    Case(Pixel, 0, 0, 0, u32::MAX, Some(Alignment)),
+    Case(Pixel, 0, 3, 65_536, 1_048_576, None),
 ];
 
 // The depths and aligns of three entries, the block size, and the least pixel size: more than one block or byte.
@@ -79,54 +83,55 @@ const LEAST: [Least; 16] = [
     Least([64, 1, 63], [0; 3], 8, 16),
 ];
 
-fn keeps_least(rt: &impl Abort, least: &Least, tried: &impl Display) -> Result<(), Fail> {
-    let Least([d0, d1, d2], [a0, a1, a2], block, pixel) = *least;
-    let entries = [
-        Entry(0, d0, 0, a0),
-        Entry(1, d1, 0, a1),
-        Entry(2, d2, 0, a2),
-    ];
-    // One block less, or one byte.
-    let fewer = pixel.saturating_sub(u32::from(block).max(1));
-    sized(rt, &entries, [1, block], [pixel, 0, 0], 0, tried)?;
-    sized(rt, &entries, [1, block], [fewer, 0, 0], 12, tried)
-}
-
-// The interleave and the block size; then the pixel size, the row align and the tile align.
-fn sized(
-    rt: &impl Abort,
-    entries: &[Entry],
-    packing: [u8; 2],
-    sizes: [u32; 3],
-    number: u8,
-    tried: &impl Display,
-) -> Result<(), Fail> {
-    let [interleave, block] = packing;
-    let [pixel, row, tile] = sizes;
-    let draft = Draft {
+// The least pixel size is kept, and one block less, or one byte, is not.
+fn keeps_least(rt: &impl Abort, heap: Global, i: usize, least: &Least) -> Result<(), Fail> {
+    let &Least([d0, d1, d2], [a0, a1, a2], block, pixel_size) = least;
+    let kept = Draft {
         types: RGB,
-        entries,
-        packing: [0, interleave, block, 0],
-        sizes: [pixel, row, tile, 0, 0],
-        frame: [1, 1],
+        entries: &[
+            Entry(0, d0, Integer, a0),
+            Entry(1, d1, Integer, a1),
+            Entry(2, d2, Integer, a2),
+        ],
+        interleave: Pixel,
+        block,
+        pixel_size,
+        ..PLAIN
     };
-    draft.answers(rt, number, 255, tried)
+    let fewer = Draft {
+        pixel_size: pixel_size.saturating_sub(u32::from(block).max(1)),
+        ..kept
+    };
+    assert_eq!(rt; refused(heap, &kept)?, None, "least {i}");
+    assert_eq!(rt;
+        refused(heap, &fewer)?,
+        Some(refusal_of_all(Alignment)),
+        "least {i}"
+    );
+    Ok(())
 }
 
 #[test]
 fn pixel_sizes_and_aligns(rt: HostRuntime) -> Result<(), Fail> {
-    for (i, case) in PLAIN.iter().enumerate() {
-        sized(
-            &rt,
-            OCTETS,
-            [case.0, case.1],
-            [case.2, case.3, case.4],
-            case.5,
-            &format_args!("case {i}"),
-        )?;
+    for (i, &Case(interleave, block, pixel_size, row_align, tile_align, broken)) in OCTET_CASES
+        .iter()
+        .enumerate()
+    {
+        let draft = Draft {
+            types: RGB,
+            entries: OCTETS,
+            interleave,
+            block,
+            pixel_size,
+            row_align,
+            tile_align,
+            ..PLAIN
+        };
+        let expected = broken.map(refusal_of_all);
+        assert_eq!(rt; refused(rt.alloc(), &draft)?, expected, "case {i}");
     }
     for (i, least) in LEAST.iter().enumerate() {
-        keeps_least(&rt, least, &format_args!("least {i}"))?;
+        keeps_least(&rt, rt.alloc(), i, least)?;
     }
     Ok(())
 }
