@@ -1,16 +1,26 @@
 // Blocks: every combination of pad low, little-endian and reversed, and every size of a kind.
-use crate::draft::{Draft, Entry, MONO, RGB, YUV};
 use crate::laid::{Bit, Laid, all};
+use boxes::Format::Integer;
+use boxes::Interleave::{Mixed, Pixel, TileComponent};
+use boxes::Sampling::{Yuv420, Yuv422};
+use std::test::*;
+use test_boxes::{Draft, Entry, Flag, MONO, PLAIN, RGB, YUV};
 
 const CASES: [Laid; 16] = [
     // no flag
     Laid {
         draft: Draft {
             types: RGB,
-            entries: &[Entry(0, 5, 0, 0), Entry(1, 4, 0, 0), Entry(2, 3, 0, 0)],
-            packing: [0, 1, 2, 0],
-            sizes: [0; 5],
-            frame: [2, 1],
+            entries: &[
+                Entry(0, 5, Integer, 0),
+                Entry(1, 4, Integer, 0),
+                Entry(2, 3, Integer, 0),
+            ],
+            interleave: Pixel,
+            block: 2,
+            width: 2,
+            height: 1,
+            ..PLAIN
         },
         size: 4,
         bits: &[
@@ -24,10 +34,17 @@ const CASES: [Laid; 16] = [
     Laid {
         draft: Draft {
             types: RGB,
-            entries: &[Entry(0, 5, 0, 0), Entry(1, 4, 0, 0), Entry(2, 3, 0, 0)],
-            packing: [0, 1, 2, 0x10],
-            sizes: [0; 5],
-            frame: [2, 1],
+            entries: &[
+                Entry(0, 5, Integer, 0),
+                Entry(1, 4, Integer, 0),
+                Entry(2, 3, Integer, 0),
+            ],
+            interleave: Pixel,
+            block: 2,
+            flags: Flag::BLOCK_REVERSED,
+            width: 2,
+            height: 1,
+            ..PLAIN
         },
         size: 4,
         bits: &[
@@ -41,10 +58,17 @@ const CASES: [Laid; 16] = [
     Laid {
         draft: Draft {
             types: RGB,
-            entries: &[Entry(0, 5, 0, 0), Entry(1, 4, 0, 0), Entry(2, 3, 0, 0)],
-            packing: [0, 1, 2, 0x20],
-            sizes: [0; 5],
-            frame: [2, 1],
+            entries: &[
+                Entry(0, 5, Integer, 0),
+                Entry(1, 4, Integer, 0),
+                Entry(2, 3, Integer, 0),
+            ],
+            interleave: Pixel,
+            block: 2,
+            flags: Flag::BLOCK_LITTLE_ENDIAN,
+            width: 2,
+            height: 1,
+            ..PLAIN
         },
         size: 4,
         bits: &[
@@ -58,10 +82,17 @@ const CASES: [Laid; 16] = [
     Laid {
         draft: Draft {
             types: RGB,
-            entries: &[Entry(0, 5, 0, 0), Entry(1, 4, 0, 0), Entry(2, 3, 0, 0)],
-            packing: [0, 1, 2, 0x30],
-            sizes: [0; 5],
-            frame: [2, 1],
+            entries: &[
+                Entry(0, 5, Integer, 0),
+                Entry(1, 4, Integer, 0),
+                Entry(2, 3, Integer, 0),
+            ],
+            interleave: Pixel,
+            block: 2,
+            flags: Flag::BLOCK_LITTLE_ENDIAN | Flag::BLOCK_REVERSED,
+            width: 2,
+            height: 1,
+            ..PLAIN
         },
         size: 4,
         bits: &[
@@ -75,10 +106,17 @@ const CASES: [Laid; 16] = [
     Laid {
         draft: Draft {
             types: RGB,
-            entries: &[Entry(0, 5, 0, 0), Entry(1, 4, 0, 0), Entry(2, 3, 0, 0)],
-            packing: [0, 1, 2, 0x40],
-            sizes: [0; 5],
-            frame: [2, 1],
+            entries: &[
+                Entry(0, 5, Integer, 0),
+                Entry(1, 4, Integer, 0),
+                Entry(2, 3, Integer, 0),
+            ],
+            interleave: Pixel,
+            block: 2,
+            flags: Flag::PAD_LOW,
+            width: 2,
+            height: 1,
+            ..PLAIN
         },
         size: 4,
         bits: &[
@@ -92,10 +130,17 @@ const CASES: [Laid; 16] = [
     Laid {
         draft: Draft {
             types: RGB,
-            entries: &[Entry(0, 5, 0, 0), Entry(1, 4, 0, 0), Entry(2, 3, 0, 0)],
-            packing: [0, 1, 2, 0x50],
-            sizes: [0; 5],
-            frame: [2, 1],
+            entries: &[
+                Entry(0, 5, Integer, 0),
+                Entry(1, 4, Integer, 0),
+                Entry(2, 3, Integer, 0),
+            ],
+            interleave: Pixel,
+            block: 2,
+            flags: Flag::PAD_LOW | Flag::BLOCK_REVERSED,
+            width: 2,
+            height: 1,
+            ..PLAIN
         },
         size: 4,
         bits: &[
@@ -109,10 +154,17 @@ const CASES: [Laid; 16] = [
     Laid {
         draft: Draft {
             types: RGB,
-            entries: &[Entry(0, 5, 0, 0), Entry(1, 4, 0, 0), Entry(2, 3, 0, 0)],
-            packing: [0, 1, 2, 0x60],
-            sizes: [0; 5],
-            frame: [2, 1],
+            entries: &[
+                Entry(0, 5, Integer, 0),
+                Entry(1, 4, Integer, 0),
+                Entry(2, 3, Integer, 0),
+            ],
+            interleave: Pixel,
+            block: 2,
+            flags: Flag::PAD_LOW | Flag::BLOCK_LITTLE_ENDIAN,
+            width: 2,
+            height: 1,
+            ..PLAIN
         },
         size: 4,
         bits: &[
@@ -126,10 +178,17 @@ const CASES: [Laid; 16] = [
     Laid {
         draft: Draft {
             types: RGB,
-            entries: &[Entry(0, 5, 0, 0), Entry(1, 4, 0, 0), Entry(2, 3, 0, 0)],
-            packing: [0, 1, 2, 0x70],
-            sizes: [0; 5],
-            frame: [2, 1],
+            entries: &[
+                Entry(0, 5, Integer, 0),
+                Entry(1, 4, Integer, 0),
+                Entry(2, 3, Integer, 0),
+            ],
+            interleave: Pixel,
+            block: 2,
+            flags: Flag::PAD_LOW | Flag::BLOCK_LITTLE_ENDIAN | Flag::BLOCK_REVERSED,
+            width: 2,
+            height: 1,
+            ..PLAIN
         },
         size: 4,
         bits: &[
@@ -143,10 +202,16 @@ const CASES: [Laid; 16] = [
     Laid {
         draft: Draft {
             types: RGB,
-            entries: &[Entry(0, 3, 0, 0), Entry(1, 2, 0, 0), Entry(2, 1, 0, 0)],
-            packing: [0, 1, 1, 0],
-            sizes: [0; 5],
-            frame: [5, 2],
+            entries: &[
+                Entry(0, 3, Integer, 0),
+                Entry(1, 2, Integer, 0),
+                Entry(2, 1, Integer, 0),
+            ],
+            interleave: Pixel,
+            block: 1,
+            width: 5,
+            height: 2,
+            ..PLAIN
         },
         size: 10,
         bits: &[
@@ -159,10 +224,17 @@ const CASES: [Laid; 16] = [
     Laid {
         draft: Draft {
             types: RGB,
-            entries: &[Entry(0, 10, 0, 0), Entry(1, 9, 0, 0), Entry(2, 1, 0, 0)],
-            packing: [0, 1, 3, 0x50],
-            sizes: [0; 5],
-            frame: [4, 2],
+            entries: &[
+                Entry(0, 10, Integer, 0),
+                Entry(1, 9, Integer, 0),
+                Entry(2, 1, Integer, 0),
+            ],
+            interleave: Pixel,
+            block: 3,
+            flags: Flag::PAD_LOW | Flag::BLOCK_REVERSED,
+            width: 4,
+            height: 2,
+            ..PLAIN
         },
         size: 24,
         bits: &[
@@ -175,10 +247,17 @@ const CASES: [Laid; 16] = [
     Laid {
         draft: Draft {
             types: RGB,
-            entries: &[Entry(0, 17, 0, 0), Entry(1, 3, 0, 0), Entry(2, 20, 0, 0)],
-            packing: [0, 1, 5, 0x30],
-            sizes: [0; 5],
-            frame: [4, 2],
+            entries: &[
+                Entry(0, 17, Integer, 0),
+                Entry(1, 3, Integer, 0),
+                Entry(2, 20, Integer, 0),
+            ],
+            interleave: Pixel,
+            block: 5,
+            flags: Flag::BLOCK_LITTLE_ENDIAN | Flag::BLOCK_REVERSED,
+            width: 4,
+            height: 2,
+            ..PLAIN
         },
         size: 40,
         bits: &[
@@ -191,10 +270,17 @@ const CASES: [Laid; 16] = [
     Laid {
         draft: Draft {
             types: RGB,
-            entries: &[Entry(0, 31, 0, 0), Entry(1, 11, 0, 0), Entry(2, 23, 0, 0)],
-            packing: [0, 1, 7, 0x60],
-            sizes: [0; 5],
-            frame: [3, 2],
+            entries: &[
+                Entry(0, 31, Integer, 0),
+                Entry(1, 11, Integer, 0),
+                Entry(2, 23, Integer, 0),
+            ],
+            interleave: Pixel,
+            block: 7,
+            flags: Flag::PAD_LOW | Flag::BLOCK_LITTLE_ENDIAN,
+            width: 3,
+            height: 2,
+            ..PLAIN
         },
         size: 70,
         bits: &[
@@ -207,10 +293,17 @@ const CASES: [Laid; 16] = [
     Laid {
         draft: Draft {
             types: RGB,
-            entries: &[Entry(0, 64, 0, 0), Entry(1, 1, 0, 0), Entry(2, 63, 0, 0)],
-            packing: [0, 1, 8, 0x10],
-            sizes: [0; 5],
-            frame: [3, 2],
+            entries: &[
+                Entry(0, 64, Integer, 0),
+                Entry(1, 1, Integer, 0),
+                Entry(2, 63, Integer, 0),
+            ],
+            interleave: Pixel,
+            block: 8,
+            flags: Flag::BLOCK_REVERSED,
+            width: 3,
+            height: 2,
+            ..PLAIN
         },
         size: 96,
         bits: &[
@@ -223,10 +316,12 @@ const CASES: [Laid; 16] = [
     Laid {
         draft: Draft {
             types: MONO,
-            entries: &[Entry(0, 5, 0, 0)],
-            packing: [0, 0, 4, 0x10],
-            sizes: [0; 5],
-            frame: [4, 2],
+            entries: &[Entry(0, 5, Integer, 0)],
+            block: 4,
+            flags: Flag::BLOCK_REVERSED,
+            width: 4,
+            height: 2,
+            ..PLAIN
         },
         size: 8,
         bits: &[Bit(0, 0, 0, 0, 3, 4), Bit(0, 3, 1, 4, 6, 7)],
@@ -235,10 +330,19 @@ const CASES: [Laid; 16] = [
     Laid {
         draft: Draft {
             types: YUV,
-            entries: &[Entry(0, 10, 0, 0), Entry(1, 10, 0, 0), Entry(2, 10, 0, 0)],
-            packing: [1, 4, 4, 0x50],
-            sizes: [0, 0, 0, 1, 0],
-            frame: [8, 2],
+            entries: &[
+                Entry(0, 10, Integer, 0),
+                Entry(1, 10, Integer, 0),
+                Entry(2, 10, Integer, 0),
+            ],
+            sampling: Yuv422,
+            interleave: TileComponent,
+            block: 4,
+            flags: Flag::PAD_LOW | Flag::BLOCK_REVERSED,
+            tile_columns_less_one: 1,
+            width: 8,
+            height: 2,
+            ..PLAIN
         },
         size: 64,
         bits: &[
@@ -251,10 +355,18 @@ const CASES: [Laid; 16] = [
     Laid {
         draft: Draft {
             types: YUV,
-            entries: &[Entry(0, 10, 0, 0), Entry(1, 12, 0, 0), Entry(2, 12, 0, 0)],
-            packing: [2, 2, 4, 0x20],
-            sizes: [0; 5],
-            frame: [8, 2],
+            entries: &[
+                Entry(0, 10, Integer, 0),
+                Entry(1, 12, Integer, 0),
+                Entry(2, 12, Integer, 0),
+            ],
+            sampling: Yuv420,
+            interleave: Mixed,
+            block: 4,
+            flags: Flag::BLOCK_LITTLE_ENDIAN,
+            width: 8,
+            height: 2,
+            ..PLAIN
         },
         size: 40,
         bits: &[
@@ -266,6 +378,6 @@ const CASES: [Laid; 16] = [
 ];
 
 #[test]
-fn blocks_in_every_order(rt: HostRuntime) {
-    all(&rt, &CASES);
+fn blocks_in_every_order(rt: HostRuntime) -> Result<(), Fail> {
+    all(&rt, rt.alloc(), &CASES)
 }

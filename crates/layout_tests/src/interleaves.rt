@@ -1,16 +1,26 @@
 // Every interleave with every sampling that it goes with, in four tiles.
-use crate::draft::{Draft, Entry, YUV};
 use crate::laid::{Bit, Laid, all};
+use boxes::Format::Integer;
+use boxes::Interleave::{Mixed, MultiY, Pixel, Row, TileComponent};
+use boxes::Sampling::{Yuv411, Yuv420, Yuv422};
+use std::test::*;
+use test_boxes::{Draft, Entry, PLAIN, YUV};
 
 const CASES: [Laid; 17] = [
     // no sampling, component
     Laid {
         draft: Draft {
             types: YUV,
-            entries: &[Entry(0, 10, 0, 0), Entry(1, 7, 0, 0), Entry(2, 5, 0, 0)],
-            packing: [0, 0, 0, 0],
-            sizes: [0, 0, 0, 1, 1],
-            frame: [8, 4],
+            entries: &[
+                Entry(0, 10, Integer, 0),
+                Entry(1, 7, Integer, 0),
+                Entry(2, 5, Integer, 0),
+            ],
+            tile_columns_less_one: 1,
+            tile_rows_less_one: 1,
+            width: 8,
+            height: 4,
+            ..PLAIN
         },
         size: 96,
         bits: &[
@@ -23,10 +33,17 @@ const CASES: [Laid; 17] = [
     Laid {
         draft: Draft {
             types: YUV,
-            entries: &[Entry(0, 10, 0, 0), Entry(1, 7, 0, 0), Entry(2, 5, 0, 0)],
-            packing: [0, 1, 0, 0],
-            sizes: [0, 0, 0, 1, 1],
-            frame: [8, 4],
+            entries: &[
+                Entry(0, 10, Integer, 0),
+                Entry(1, 7, Integer, 0),
+                Entry(2, 5, Integer, 0),
+            ],
+            interleave: Pixel,
+            tile_columns_less_one: 1,
+            tile_rows_less_one: 1,
+            width: 8,
+            height: 4,
+            ..PLAIN
         },
         size: 88,
         bits: &[
@@ -39,10 +56,17 @@ const CASES: [Laid; 17] = [
     Laid {
         draft: Draft {
             types: YUV,
-            entries: &[Entry(0, 10, 0, 0), Entry(1, 7, 0, 0), Entry(2, 5, 0, 0)],
-            packing: [0, 3, 0, 0],
-            sizes: [0, 0, 0, 1, 1],
-            frame: [8, 4],
+            entries: &[
+                Entry(0, 10, Integer, 0),
+                Entry(1, 7, Integer, 0),
+                Entry(2, 5, Integer, 0),
+            ],
+            interleave: Row,
+            tile_columns_less_one: 1,
+            tile_rows_less_one: 1,
+            width: 8,
+            height: 4,
+            ..PLAIN
         },
         size: 96,
         bits: &[
@@ -55,10 +79,17 @@ const CASES: [Laid; 17] = [
     Laid {
         draft: Draft {
             types: YUV,
-            entries: &[Entry(0, 10, 0, 0), Entry(1, 7, 0, 0), Entry(2, 5, 0, 0)],
-            packing: [0, 4, 0, 0],
-            sizes: [0, 0, 0, 1, 1],
-            frame: [8, 4],
+            entries: &[
+                Entry(0, 10, Integer, 0),
+                Entry(1, 7, Integer, 0),
+                Entry(2, 5, Integer, 0),
+            ],
+            interleave: TileComponent,
+            tile_columns_less_one: 1,
+            tile_rows_less_one: 1,
+            width: 8,
+            height: 4,
+            ..PLAIN
         },
         size: 96,
         bits: &[
@@ -71,10 +102,17 @@ const CASES: [Laid; 17] = [
     Laid {
         draft: Draft {
             types: YUV,
-            entries: &[Entry(0, 10, 0, 0), Entry(1, 7, 0, 0), Entry(2, 5, 0, 0)],
-            packing: [1, 0, 0, 0],
-            sizes: [0, 0, 0, 1, 1],
-            frame: [8, 4],
+            entries: &[
+                Entry(0, 10, Integer, 0),
+                Entry(1, 7, Integer, 0),
+                Entry(2, 5, Integer, 0),
+            ],
+            sampling: Yuv422,
+            tile_columns_less_one: 1,
+            tile_rows_less_one: 1,
+            width: 8,
+            height: 4,
+            ..PLAIN
         },
         size: 72,
         bits: &[
@@ -87,10 +125,18 @@ const CASES: [Laid; 17] = [
     Laid {
         draft: Draft {
             types: YUV,
-            entries: &[Entry(0, 10, 0, 0), Entry(2, 5, 0, 0), Entry(1, 7, 0, 0)],
-            packing: [1, 2, 0, 0],
-            sizes: [0, 0, 0, 1, 1],
-            frame: [8, 4],
+            entries: &[
+                Entry(0, 10, Integer, 0),
+                Entry(2, 5, Integer, 0),
+                Entry(1, 7, Integer, 0),
+            ],
+            sampling: Yuv422,
+            interleave: Mixed,
+            tile_columns_less_one: 1,
+            tile_rows_less_one: 1,
+            width: 8,
+            height: 4,
+            ..PLAIN
         },
         size: 64,
         bits: &[
@@ -103,10 +149,18 @@ const CASES: [Laid; 17] = [
     Laid {
         draft: Draft {
             types: YUV,
-            entries: &[Entry(0, 10, 0, 0), Entry(1, 7, 0, 0), Entry(2, 5, 0, 0)],
-            packing: [1, 4, 0, 0],
-            sizes: [0, 0, 0, 1, 1],
-            frame: [8, 4],
+            entries: &[
+                Entry(0, 10, Integer, 0),
+                Entry(1, 7, Integer, 0),
+                Entry(2, 5, Integer, 0),
+            ],
+            sampling: Yuv422,
+            interleave: TileComponent,
+            tile_columns_less_one: 1,
+            tile_rows_less_one: 1,
+            width: 8,
+            height: 4,
+            ..PLAIN
         },
         size: 72,
         bits: &[
@@ -120,14 +174,18 @@ const CASES: [Laid; 17] = [
         draft: Draft {
             types: YUV,
             entries: &[
-                Entry(1, 7, 0, 0),
-                Entry(0, 10, 0, 0),
-                Entry(2, 5, 0, 0),
-                Entry(0, 10, 0, 0),
+                Entry(1, 7, Integer, 0),
+                Entry(0, 10, Integer, 0),
+                Entry(2, 5, Integer, 0),
+                Entry(0, 10, Integer, 0),
             ],
-            packing: [1, 5, 0, 0],
-            sizes: [0, 0, 0, 1, 1],
-            frame: [8, 4],
+            sampling: Yuv422,
+            interleave: MultiY,
+            tile_columns_less_one: 1,
+            tile_rows_less_one: 1,
+            width: 8,
+            height: 4,
+            ..PLAIN
         },
         size: 64,
         bits: &[
@@ -140,10 +198,17 @@ const CASES: [Laid; 17] = [
     Laid {
         draft: Draft {
             types: YUV,
-            entries: &[Entry(0, 10, 0, 0), Entry(1, 7, 0, 0), Entry(2, 5, 0, 0)],
-            packing: [2, 0, 0, 0],
-            sizes: [0, 0, 0, 1, 1],
-            frame: [8, 4],
+            entries: &[
+                Entry(0, 10, Integer, 0),
+                Entry(1, 7, Integer, 0),
+                Entry(2, 5, Integer, 0),
+            ],
+            sampling: Yuv420,
+            tile_columns_less_one: 1,
+            tile_rows_less_one: 1,
+            width: 8,
+            height: 4,
+            ..PLAIN
         },
         size: 56,
         bits: &[
@@ -156,10 +221,18 @@ const CASES: [Laid; 17] = [
     Laid {
         draft: Draft {
             types: YUV,
-            entries: &[Entry(0, 10, 0, 0), Entry(1, 7, 0, 0), Entry(2, 5, 0, 0)],
-            packing: [2, 2, 0, 0],
-            sizes: [0, 0, 0, 1, 1],
-            frame: [8, 4],
+            entries: &[
+                Entry(0, 10, Integer, 0),
+                Entry(1, 7, Integer, 0),
+                Entry(2, 5, Integer, 0),
+            ],
+            sampling: Yuv420,
+            interleave: Mixed,
+            tile_columns_less_one: 1,
+            tile_rows_less_one: 1,
+            width: 8,
+            height: 4,
+            ..PLAIN
         },
         size: 52,
         bits: &[
@@ -172,10 +245,18 @@ const CASES: [Laid; 17] = [
     Laid {
         draft: Draft {
             types: YUV,
-            entries: &[Entry(0, 10, 0, 0), Entry(1, 7, 0, 0), Entry(2, 5, 0, 0)],
-            packing: [2, 4, 0, 0],
-            sizes: [0, 0, 0, 1, 1],
-            frame: [8, 4],
+            entries: &[
+                Entry(0, 10, Integer, 0),
+                Entry(1, 7, Integer, 0),
+                Entry(2, 5, Integer, 0),
+            ],
+            sampling: Yuv420,
+            interleave: TileComponent,
+            tile_columns_less_one: 1,
+            tile_rows_less_one: 1,
+            width: 8,
+            height: 4,
+            ..PLAIN
         },
         size: 56,
         bits: &[
@@ -188,10 +269,17 @@ const CASES: [Laid; 17] = [
     Laid {
         draft: Draft {
             types: YUV,
-            entries: &[Entry(0, 10, 0, 0), Entry(1, 7, 0, 0), Entry(2, 5, 0, 0)],
-            packing: [3, 0, 0, 0],
-            sizes: [0, 0, 0, 1, 1],
-            frame: [8, 4],
+            entries: &[
+                Entry(0, 10, Integer, 0),
+                Entry(1, 7, Integer, 0),
+                Entry(2, 5, Integer, 0),
+            ],
+            sampling: Yuv411,
+            tile_columns_less_one: 1,
+            tile_rows_less_one: 1,
+            width: 8,
+            height: 4,
+            ..PLAIN
         },
         size: 56,
         bits: &[
@@ -204,10 +292,18 @@ const CASES: [Laid; 17] = [
     Laid {
         draft: Draft {
             types: YUV,
-            entries: &[Entry(0, 10, 0, 0), Entry(1, 7, 0, 0), Entry(2, 5, 0, 0)],
-            packing: [3, 4, 0, 0],
-            sizes: [0, 0, 0, 1, 1],
-            frame: [8, 4],
+            entries: &[
+                Entry(0, 10, Integer, 0),
+                Entry(1, 7, Integer, 0),
+                Entry(2, 5, Integer, 0),
+            ],
+            sampling: Yuv411,
+            interleave: TileComponent,
+            tile_columns_less_one: 1,
+            tile_rows_less_one: 1,
+            width: 8,
+            height: 4,
+            ..PLAIN
         },
         size: 56,
         bits: &[
@@ -221,16 +317,20 @@ const CASES: [Laid; 17] = [
         draft: Draft {
             types: YUV,
             entries: &[
-                Entry(0, 10, 0, 0),
-                Entry(0, 10, 0, 0),
-                Entry(1, 7, 0, 0),
-                Entry(0, 10, 0, 0),
-                Entry(2, 5, 0, 0),
-                Entry(0, 10, 0, 0),
+                Entry(0, 10, Integer, 0),
+                Entry(0, 10, Integer, 0),
+                Entry(1, 7, Integer, 0),
+                Entry(0, 10, Integer, 0),
+                Entry(2, 5, Integer, 0),
+                Entry(0, 10, Integer, 0),
             ],
-            packing: [3, 5, 0, 0],
-            sizes: [0, 0, 0, 1, 1],
-            frame: [8, 4],
+            sampling: Yuv411,
+            interleave: MultiY,
+            tile_columns_less_one: 1,
+            tile_rows_less_one: 1,
+            width: 8,
+            height: 4,
+            ..PLAIN
         },
         size: 56,
         bits: &[
@@ -244,14 +344,17 @@ const CASES: [Laid; 17] = [
         draft: Draft {
             types: &[1, 2, 3, 7],
             entries: &[
-                Entry(2, 5, 0, 0),
-                Entry(3, 3, 0, 0),
-                Entry(1, 7, 0, 0),
-                Entry(0, 10, 0, 0),
+                Entry(2, 5, Integer, 0),
+                Entry(3, 3, Integer, 0),
+                Entry(1, 7, Integer, 0),
+                Entry(0, 10, Integer, 0),
             ],
-            packing: [2, 0, 0, 0],
-            sizes: [0, 0, 0, 1, 1],
-            frame: [8, 4],
+            sampling: Yuv420,
+            tile_columns_less_one: 1,
+            tile_rows_less_one: 1,
+            width: 8,
+            height: 4,
+            ..PLAIN
         },
         size: 72,
         bits: &[
@@ -266,14 +369,15 @@ const CASES: [Laid; 17] = [
         draft: Draft {
             types: &[4, 5, 6, 7],
             entries: &[
-                Entry(3, 8, 0, 0),
-                Entry(2, 8, 0, 0),
-                Entry(1, 8, 0, 0),
-                Entry(0, 8, 0, 0),
+                Entry(3, 8, Integer, 0),
+                Entry(2, 8, Integer, 0),
+                Entry(1, 8, Integer, 0),
+                Entry(0, 8, Integer, 0),
             ],
-            packing: [0, 1, 0, 0],
-            sizes: [0; 5],
-            frame: [2, 1],
+            interleave: Pixel,
+            width: 2,
+            height: 1,
+            ..PLAIN
         },
         size: 8,
         bits: &[Bit(0, 0, 0, 0, 3, 7), Bit(3, 1, 0, 0, 4, 7)],
@@ -282,10 +386,10 @@ const CASES: [Laid; 17] = [
     Laid {
         draft: Draft {
             types: &[2, 3],
-            entries: &[Entry(0, 8, 0, 0), Entry(1, 8, 0, 0)],
-            packing: [0, 0, 0, 0],
-            sizes: [0; 5],
-            frame: [3, 2],
+            entries: &[Entry(0, 8, Integer, 0), Entry(1, 8, Integer, 0)],
+            width: 3,
+            height: 2,
+            ..PLAIN
         },
         size: 12,
         bits: &[Bit(0, 2, 1, 7, 5, 0), Bit(1, 2, 1, 7, 11, 0)],
@@ -293,6 +397,6 @@ const CASES: [Laid; 17] = [
 ];
 
 #[test]
-fn interleaves_and_samplings(rt: HostRuntime) {
-    all(&rt, &CASES);
+fn interleaves_and_samplings(rt: HostRuntime) -> Result<(), Fail> {
+    all(&rt, rt.alloc(), &CASES)
 }

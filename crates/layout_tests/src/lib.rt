@@ -7,10 +7,6 @@
 #[cfg(test)]
 mod blocks;
 #[cfg(test)]
-mod buffer;
-#[cfg(test)]
-mod draft;
-#[cfg(test)]
 mod grids;
 #[cfg(test)]
 mod interleaves;
@@ -28,8 +24,6 @@ mod pixels;
 mod places;
 #[cfg(test)]
 mod profiles;
-#[cfg(test)]
-mod refusal;
 #[cfg(test)]
 mod wide;
 #[cfg(test)]

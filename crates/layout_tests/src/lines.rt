@@ -1,16 +1,20 @@
 // Lines and tiles, rounded up.
-use crate::draft::{Draft, Entry, MONO, OCTETS, RGB, YUV};
 use crate::laid::{Bit, Laid, all};
+use boxes::Format::Integer;
+use boxes::Interleave::{Mixed, Pixel, Row, TileComponent};
+use boxes::Sampling::Yuv420;
+use std::test::*;
+use test_boxes::{Draft, Entry, MONO, OCTETS, PLAIN, RGB, YUV};
 
 const CASES: [Laid; 12] = [
     // a line ends on a byte
     Laid {
         draft: Draft {
             types: MONO,
-            entries: &[Entry(0, 3, 0, 0)],
-            packing: [0, 0, 0, 0],
-            sizes: [0; 5],
-            frame: [3, 2],
+            entries: &[Entry(0, 3, Integer, 0)],
+            width: 3,
+            height: 2,
+            ..PLAIN
         },
         size: 4,
         bits: &[
@@ -23,10 +27,11 @@ const CASES: [Laid; 12] = [
     Laid {
         draft: Draft {
             types: MONO,
-            entries: &[Entry(0, 3, 0, 0)],
-            packing: [0, 0, 0, 0],
-            sizes: [0, 1, 0, 0, 0],
-            frame: [3, 2],
+            entries: &[Entry(0, 3, Integer, 0)],
+            row_align: 1,
+            width: 3,
+            height: 2,
+            ..PLAIN
         },
         size: 4,
         bits: &[
@@ -39,10 +44,11 @@ const CASES: [Laid; 12] = [
     Laid {
         draft: Draft {
             types: &[0, 0],
-            entries: &[Entry(0, 3, 0, 0), Entry(1, 12, 0, 0)],
-            packing: [0, 0, 0, 0],
-            sizes: [0, 4, 0, 0, 0],
-            frame: [3, 2],
+            entries: &[Entry(0, 3, Integer, 0), Entry(1, 12, Integer, 0)],
+            row_align: 4,
+            width: 3,
+            height: 2,
+            ..PLAIN
         },
         size: 24,
         bits: &[
@@ -55,10 +61,11 @@ const CASES: [Laid; 12] = [
     Laid {
         draft: Draft {
             types: MONO,
-            entries: &[Entry(0, 8, 0, 0)],
-            packing: [0, 0, 0, 0],
-            sizes: [0, 4, 0, 0, 0],
-            frame: [4, 2],
+            entries: &[Entry(0, 8, Integer, 0)],
+            row_align: 4,
+            width: 4,
+            height: 2,
+            ..PLAIN
         },
         size: 8,
         bits: &[Bit(0, 1, 1, 6, 5, 1), Bit(0, 3, 1, 7, 7, 0)],
@@ -67,10 +74,12 @@ const CASES: [Laid; 12] = [
     Laid {
         draft: Draft {
             types: &[0, 0],
-            entries: &[Entry(0, 8, 0, 0), Entry(1, 8, 0, 0)],
-            packing: [0, 0, 0, 0],
-            sizes: [0, 0, 16, 1, 0],
-            frame: [4, 2],
+            entries: &[Entry(0, 8, Integer, 0), Entry(1, 8, Integer, 0)],
+            tile_align: 16,
+            tile_columns_less_one: 1,
+            width: 4,
+            height: 2,
+            ..PLAIN
         },
         size: 32,
         bits: &[
@@ -83,10 +92,12 @@ const CASES: [Laid; 12] = [
     Laid {
         draft: Draft {
             types: MONO,
-            entries: &[Entry(0, 8, 0, 0)],
-            packing: [0, 0, 0, 0],
-            sizes: [0, 0, 4, 1, 0],
-            frame: [4, 2],
+            entries: &[Entry(0, 8, Integer, 0)],
+            tile_align: 4,
+            tile_columns_less_one: 1,
+            width: 4,
+            height: 2,
+            ..PLAIN
         },
         size: 8,
         bits: &[Bit(0, 2, 0, 0, 4, 7), Bit(0, 3, 1, 7, 7, 0)],
@@ -95,10 +106,14 @@ const CASES: [Laid; 12] = [
     Laid {
         draft: Draft {
             types: &[0, 0],
-            entries: &[Entry(0, 8, 0, 0), Entry(1, 5, 0, 0)],
-            packing: [0, 0, 0, 0],
-            sizes: [0, 3, 7, 1, 1],
-            frame: [4, 4],
+            entries: &[Entry(0, 8, Integer, 0), Entry(1, 5, Integer, 0)],
+            row_align: 3,
+            tile_align: 7,
+            tile_columns_less_one: 1,
+            tile_rows_less_one: 1,
+            width: 4,
+            height: 4,
+            ..PLAIN
         },
         size: 56,
         bits: &[
@@ -111,10 +126,15 @@ const CASES: [Laid; 12] = [
     Laid {
         draft: Draft {
             types: &[0, 0],
-            entries: &[Entry(0, 8, 0, 0), Entry(1, 5, 0, 0)],
-            packing: [0, 3, 0, 0],
-            sizes: [0, 3, 7, 1, 1],
-            frame: [4, 4],
+            entries: &[Entry(0, 8, Integer, 0), Entry(1, 5, Integer, 0)],
+            interleave: Row,
+            row_align: 3,
+            tile_align: 7,
+            tile_columns_less_one: 1,
+            tile_rows_less_one: 1,
+            width: 4,
+            height: 4,
+            ..PLAIN
         },
         size: 56,
         bits: &[
@@ -127,10 +147,15 @@ const CASES: [Laid; 12] = [
     Laid {
         draft: Draft {
             types: &[0, 0],
-            entries: &[Entry(0, 8, 0, 0), Entry(1, 5, 0, 0)],
-            packing: [0, 4, 0, 0],
-            sizes: [0, 3, 7, 1, 1],
-            frame: [4, 4],
+            entries: &[Entry(0, 8, Integer, 0), Entry(1, 5, Integer, 0)],
+            interleave: TileComponent,
+            row_align: 3,
+            tile_align: 7,
+            tile_columns_less_one: 1,
+            tile_rows_less_one: 1,
+            width: 4,
+            height: 4,
+            ..PLAIN
         },
         size: 56,
         bits: &[
@@ -144,9 +169,14 @@ const CASES: [Laid; 12] = [
         draft: Draft {
             types: RGB,
             entries: OCTETS,
-            packing: [0, 1, 0, 0],
-            sizes: [0, 4, 10, 2, 1],
-            frame: [6, 2],
+            interleave: Pixel,
+            row_align: 4,
+            tile_align: 10,
+            tile_columns_less_one: 2,
+            tile_rows_less_one: 1,
+            width: 6,
+            height: 2,
+            ..PLAIN
         },
         size: 60,
         bits: &[
@@ -160,9 +190,14 @@ const CASES: [Laid; 12] = [
         draft: Draft {
             types: YUV,
             entries: OCTETS,
-            packing: [2, 2, 0, 0],
-            sizes: [0, 3, 11, 1, 0],
-            frame: [4, 4],
+            sampling: Yuv420,
+            interleave: Mixed,
+            row_align: 3,
+            tile_align: 11,
+            tile_columns_less_one: 1,
+            width: 4,
+            height: 4,
+            ..PLAIN
         },
         size: 44,
         bits: &[
@@ -175,10 +210,13 @@ const CASES: [Laid; 12] = [
     Laid {
         draft: Draft {
             types: MONO,
-            entries: &[Entry(0, 8, 0, 0)],
-            packing: [0, 0, 0, 0],
-            sizes: [0, 65_536, 1_048_576, 1, 0],
-            frame: [2, 2],
+            entries: &[Entry(0, 8, Integer, 0)],
+            row_align: 65_536,
+            tile_align: 1_048_576,
+            tile_columns_less_one: 1,
+            width: 2,
+            height: 2,
+            ..PLAIN
         },
         size: 2_097_152,
         bits: &[
@@ -190,6 +228,6 @@ const CASES: [Laid; 12] = [
 ];
 
 #[test]
-fn row_align_and_tile_align(rt: HostRuntime) {
-    all(&rt, &CASES);
+fn row_align_and_tile_align(rt: HostRuntime) -> Result<(), Fail> {
+    all(&rt, rt.alloc(), &CASES)
 }

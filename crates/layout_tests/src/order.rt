@@ -1,75 +1,211 @@
 // Every rule of the configuration is asked of a layout, in the order of the numbers: the lowest that is broken is answered.
-use crate::draft::{Draft, Entry, MONO, OCTETS, YUV};
+use crate::laid::layout_of;
+use boxes::Format::Integer;
+use boxes::Interleave::Pixel;
+use boxes::Sampling::Yuv420;
+use fault::Reason::{
+    self, Alignment, Blocks, Depth, Dimensions, FrameSize, Index, Interleaving, Presence, Tiles,
+};
+use fault::{Fault, Layer};
+use std::test::*;
+use test_boxes::{Draft, Entry, OCTETS, PLAIN, YUV};
 
-// The types, the list, the interleave, the block size, the row align, the frame, the number and the place.
-struct Case(
-    &'static [u8],
-    &'static [Entry],
-    u8,
-    u8,
-    u32,
-    [u32; 2],
-    u8,
-    u64,
-);
+// A rule that is broken, and the position of the entry that breaks it.
+type Broken = (Reason, u64);
+
+// Stands for the position where no one entry breaks the rule.
+const NO_ENTRY: u64 = 255;
+
+// The boxes, and the rule where one is broken.
+struct Case(Draft<'static>, Option<Broken>);
+
+fn refusal((reason, entry): Broken) -> Fault {
+    Layer::Configuration.refuses(reason, entry)
+}
 
 // The second entry has an index that is not defined, the third a depth that no integer has.
-const WRONG: &[Entry] = &[Entry(0, 8, 0, 0), Entry(3, 8, 0, 0), Entry(2, 65, 0, 0)];
+const WRONG: &[Entry] = &[
+    Entry(0, 8, Integer, 0),
+    Entry(3, 8, Integer, 0),
+    Entry(2, 65, Integer, 0),
+];
 
-const DEEP: &[Entry] = &[Entry(0, 8, 0, 0), Entry(1, 8, 0, 0), Entry(2, 65, 0, 0)];
+const DEEP: &[Entry] = &[
+    Entry(0, 8, Integer, 0),
+    Entry(1, 8, Integer, 0),
+    Entry(2, 65, Integer, 0),
+];
 
 // From case to case one broken rule less, in sampling 2.
 const CASES: [Case; 10] = [
-    Case(&[], WRONG, 1, 9, 65_537, [0, 32_767], 6, 255),
-    Case(YUV, WRONG, 1, 9, 65_537, [0, 32_767], 7, 255),
-    Case(YUV, WRONG, 1, 9, 65_537, [2, 32_767], 8, 1),
-    Case(YUV, DEEP, 1, 9, 65_537, [2, 32_767], 9, 2),
-    Case(YUV, OCTETS, 1, 9, 65_537, [2, 32_767], 10, 255),
-    Case(YUV, OCTETS, 0, 9, 65_537, [2, 32_767], 11, 255),
-    Case(YUV, OCTETS, 0, 1, 65_537, [2, 32_767], 12, 255),
-    Case(YUV, OCTETS, 0, 1, 65_536, [2, 32_767], 13, 255),
-    Case(YUV, OCTETS, 0, 1, 65_536, [2, 32_768], 14, 255),
-    Case(YUV, OCTETS, 0, 1, 65_536, [2, 32_766], 0, 0),
+    Case(
+        Draft {
+            types: &[],
+            entries: WRONG,
+            sampling: Yuv420,
+            interleave: Pixel,
+            block: 9,
+            row_align: 65_537,
+            width: 0,
+            height: 32_767,
+            ..PLAIN
+        },
+        Some((Presence, NO_ENTRY)),
+    ),
+    Case(
+        Draft {
+            types: YUV,
+            entries: WRONG,
+            sampling: Yuv420,
+            interleave: Pixel,
+            block: 9,
+            row_align: 65_537,
+            width: 0,
+            height: 32_767,
+            ..PLAIN
+        },
+        Some((Dimensions, NO_ENTRY)),
+    ),
+    Case(
+        Draft {
+            types: YUV,
+            entries: WRONG,
+            sampling: Yuv420,
+            interleave: Pixel,
+            block: 9,
+            row_align: 65_537,
+            width: 2,
+            height: 32_767,
+            ..PLAIN
+        },
+        Some((Index, 1)),
+    ),
+    Case(
+        Draft {
+            types: YUV,
+            entries: DEEP,
+            sampling: Yuv420,
+            interleave: Pixel,
+            block: 9,
+            row_align: 65_537,
+            width: 2,
+            height: 32_767,
+            ..PLAIN
+        },
+        Some((Depth, 2)),
+    ),
+    Case(
+        Draft {
+            types: YUV,
+            entries: OCTETS,
+            sampling: Yuv420,
+            interleave: Pixel,
+            block: 9,
+            row_align: 65_537,
+            width: 2,
+            height: 32_767,
+            ..PLAIN
+        },
+        Some((Interleaving, NO_ENTRY)),
+    ),
+    Case(
+        Draft {
+            types: YUV,
+            entries: OCTETS,
+            sampling: Yuv420,
+            block: 9,
+            row_align: 65_537,
+            width: 2,
+            height: 32_767,
+            ..PLAIN
+        },
+        Some((Blocks, NO_ENTRY)),
+    ),
+    Case(
+        Draft {
+            types: YUV,
+            entries: OCTETS,
+            sampling: Yuv420,
+            block: 1,
+            row_align: 65_537,
+            width: 2,
+            height: 32_767,
+            ..PLAIN
+        },
+        Some((Alignment, NO_ENTRY)),
+    ),
+    Case(
+        Draft {
+            types: YUV,
+            entries: OCTETS,
+            sampling: Yuv420,
+            block: 1,
+            row_align: 65_536,
+            width: 2,
+            height: 32_767,
+            ..PLAIN
+        },
+        Some((Tiles, NO_ENTRY)),
+    ),
+    Case(
+        Draft {
+            types: YUV,
+            entries: OCTETS,
+            sampling: Yuv420,
+            block: 1,
+            row_align: 65_536,
+            width: 2,
+            height: 32_768,
+            ..PLAIN
+        },
+        Some((FrameSize, NO_ENTRY)),
+    ),
+    Case(
+        Draft {
+            types: YUV,
+            entries: OCTETS,
+            sampling: Yuv420,
+            block: 1,
+            row_align: 65_536,
+            width: 2,
+            height: 32_766,
+            ..PLAIN
+        },
+        None,
+    ),
 ];
 
 #[test]
-fn lower_number_first(rt: HostRuntime) {
-    for (i, case) in CASES.iter().enumerate() {
-        let draft = Draft {
-            types: case.0,
-            entries: case.1,
-            packing: [2, case.2, case.3, 0],
-            sizes: [0, case.4, 0, 0, 0],
-            frame: case.5,
-        };
-        draft.answers(&rt, case.6, case.7, &format_args!("case {i}"));
+fn lower_number_first(rt: HostRuntime) -> Result<(), Fail> {
+    for (i, Case(draft, broken)) in CASES.iter().enumerate() {
+        let answer = layout_of(rt.alloc(), draft)?.err();
+        assert_eq!(rt; answer, broken.map(refusal), "case {i}");
     }
+    Ok(())
 }
 
-// The depth, the align and the number.
-struct Word(u16, u8, u8);
+// The depth, the align, and the rule where it is broken.
+struct Word(u16, u8, Option<Reason>);
 
 const WORDS: [Word; 6] = [
-    Word(7, 1, 0),
-    Word(8, 1, 9),
-    Word(15, 2, 0),
-    Word(16, 2, 9),
-    Word(63, 8, 0),
-    Word(64, 8, 9),
+    Word(7, 1, None),
+    Word(8, 1, Some(Depth)),
+    Word(15, 2, None),
+    Word(16, 2, Some(Depth)),
+    Word(63, 8, None),
+    Word(64, 8, Some(Depth)),
 ];
 
 #[test]
-fn word_has_more_bits_than_its_value(rt: HostRuntime) {
-    for word in &WORDS {
-        let entries = [Entry(0, word.0, 0, word.1)];
+fn word_has_more_bits_than_its_value(rt: HostRuntime) -> Result<(), Fail> {
+    for &Word(depth, align, broken) in &WORDS {
         let draft = Draft {
-            types: MONO,
-            entries: &entries,
-            packing: [0; 4],
-            sizes: [0; 5],
-            frame: [1, 1],
+            entries: &[Entry(0, depth, Integer, align)],
+            ..PLAIN
         };
-        let note = format_args!("depth {}, align {}", word.0, word.1);
-        draft.answers(&rt, word.2, 0, &note);
+        let answer = layout_of(rt.alloc(), &draft)?.err();
+        let expected = broken.map(|reason| refusal((reason, 0)));
+        assert_eq!(rt; answer, expected, "depth {depth}, align {align}");
     }
+    Ok(())
 }

@@ -1,16 +1,25 @@
 // Pixels of a size of their own, with and without blocks.
-use crate::draft::{Draft, Entry, OCTETS, RGB};
 use crate::laid::{Bit, Laid, all};
+use boxes::Format::Integer;
+use boxes::Interleave::Pixel;
+use std::test::*;
+use test_boxes::{Draft, Entry, Flag, OCTETS, PLAIN, RGB};
 
 const CASES: [Laid; 10] = [
     // the bytes of the values
     Laid {
         draft: Draft {
             types: RGB,
-            entries: &[Entry(0, 5, 0, 0), Entry(1, 6, 0, 0), Entry(2, 5, 0, 0)],
-            packing: [0, 1, 0, 0],
-            sizes: [2, 0, 0, 0, 0],
-            frame: [3, 1],
+            entries: &[
+                Entry(0, 5, Integer, 0),
+                Entry(1, 6, Integer, 0),
+                Entry(2, 5, Integer, 0),
+            ],
+            interleave: Pixel,
+            pixel_size: 2,
+            width: 3,
+            height: 1,
+            ..PLAIN
         },
         size: 6,
         bits: &[
@@ -23,10 +32,16 @@ const CASES: [Laid; 10] = [
     Laid {
         draft: Draft {
             types: RGB,
-            entries: &[Entry(0, 5, 0, 0), Entry(1, 6, 0, 0), Entry(2, 5, 0, 0)],
-            packing: [0, 1, 0, 0],
-            sizes: [3, 0, 0, 0, 0],
-            frame: [3, 2],
+            entries: &[
+                Entry(0, 5, Integer, 0),
+                Entry(1, 6, Integer, 0),
+                Entry(2, 5, Integer, 0),
+            ],
+            interleave: Pixel,
+            pixel_size: 3,
+            width: 3,
+            height: 2,
+            ..PLAIN
         },
         size: 18,
         bits: &[
@@ -39,10 +54,16 @@ const CASES: [Laid; 10] = [
     Laid {
         draft: Draft {
             types: RGB,
-            entries: &[Entry(0, 3, 0, 0), Entry(1, 3, 0, 0), Entry(2, 3, 0, 0)],
-            packing: [0, 1, 0, 0],
-            sizes: [2, 0, 0, 0, 0],
-            frame: [3, 1],
+            entries: &[
+                Entry(0, 3, Integer, 0),
+                Entry(1, 3, Integer, 0),
+                Entry(2, 3, Integer, 0),
+            ],
+            interleave: Pixel,
+            pixel_size: 2,
+            width: 3,
+            height: 1,
+            ..PLAIN
         },
         size: 6,
         bits: &[
@@ -55,10 +76,15 @@ const CASES: [Laid; 10] = [
     Laid {
         draft: Draft {
             types: RGB,
-            entries: &[Entry(0, 3, 0, 0), Entry(1, 3, 0, 0), Entry(2, 3, 0, 0)],
-            packing: [0, 1, 0, 0],
-            sizes: [0; 5],
-            frame: [3, 1],
+            entries: &[
+                Entry(0, 3, Integer, 0),
+                Entry(1, 3, Integer, 0),
+                Entry(2, 3, Integer, 0),
+            ],
+            interleave: Pixel,
+            width: 3,
+            height: 1,
+            ..PLAIN
         },
         size: 4,
         bits: &[
@@ -71,10 +97,17 @@ const CASES: [Laid; 10] = [
     Laid {
         draft: Draft {
             types: RGB,
-            entries: &[Entry(0, 3, 0, 0), Entry(1, 7, 0, 1), Entry(2, 12, 0, 2)],
-            packing: [0, 1, 0, 0],
-            sizes: [5, 4, 0, 0, 0],
-            frame: [3, 1],
+            entries: &[
+                Entry(0, 3, Integer, 0),
+                Entry(1, 7, Integer, 1),
+                Entry(2, 12, Integer, 2),
+            ],
+            interleave: Pixel,
+            pixel_size: 5,
+            row_align: 4,
+            width: 3,
+            height: 1,
+            ..PLAIN
         },
         size: 16,
         bits: &[
@@ -87,10 +120,17 @@ const CASES: [Laid; 10] = [
     Laid {
         draft: Draft {
             types: RGB,
-            entries: &[Entry(0, 5, 0, 0), Entry(1, 7, 0, 0), Entry(2, 6, 0, 0)],
-            packing: [0, 1, 2, 0],
-            sizes: [4, 0, 0, 0, 0],
-            frame: [3, 1],
+            entries: &[
+                Entry(0, 5, Integer, 0),
+                Entry(1, 7, Integer, 0),
+                Entry(2, 6, Integer, 0),
+            ],
+            interleave: Pixel,
+            block: 2,
+            pixel_size: 4,
+            width: 3,
+            height: 1,
+            ..PLAIN
         },
         size: 12,
         bits: &[
@@ -103,10 +143,18 @@ const CASES: [Laid; 10] = [
     Laid {
         draft: Draft {
             types: RGB,
-            entries: &[Entry(0, 5, 0, 0), Entry(1, 7, 0, 0), Entry(2, 6, 0, 0)],
-            packing: [0, 1, 2, 0x40],
-            sizes: [6, 0, 0, 0, 0],
-            frame: [3, 1],
+            entries: &[
+                Entry(0, 5, Integer, 0),
+                Entry(1, 7, Integer, 0),
+                Entry(2, 6, Integer, 0),
+            ],
+            interleave: Pixel,
+            block: 2,
+            flags: Flag::PAD_LOW,
+            pixel_size: 6,
+            width: 3,
+            height: 1,
+            ..PLAIN
         },
         size: 18,
         bits: &[
@@ -119,10 +167,18 @@ const CASES: [Laid; 10] = [
     Laid {
         draft: Draft {
             types: RGB,
-            entries: &[Entry(0, 5, 0, 0), Entry(1, 7, 0, 0), Entry(2, 6, 0, 0)],
-            packing: [0, 1, 2, 0x30],
-            sizes: [4, 0, 0, 0, 0],
-            frame: [3, 1],
+            entries: &[
+                Entry(0, 5, Integer, 0),
+                Entry(1, 7, Integer, 0),
+                Entry(2, 6, Integer, 0),
+            ],
+            interleave: Pixel,
+            block: 2,
+            flags: Flag::BLOCK_LITTLE_ENDIAN | Flag::BLOCK_REVERSED,
+            pixel_size: 4,
+            width: 3,
+            height: 1,
+            ..PLAIN
         },
         size: 12,
         bits: &[
@@ -135,10 +191,18 @@ const CASES: [Laid; 10] = [
     Laid {
         draft: Draft {
             types: RGB,
-            entries: &[Entry(0, 5, 0, 0), Entry(1, 7, 0, 0), Entry(2, 6, 0, 0)],
-            packing: [0, 1, 2, 0x50],
-            sizes: [6, 0, 0, 0, 0],
-            frame: [3, 1],
+            entries: &[
+                Entry(0, 5, Integer, 0),
+                Entry(1, 7, Integer, 0),
+                Entry(2, 6, Integer, 0),
+            ],
+            interleave: Pixel,
+            block: 2,
+            flags: Flag::PAD_LOW | Flag::BLOCK_REVERSED,
+            pixel_size: 6,
+            width: 3,
+            height: 1,
+            ..PLAIN
         },
         size: 18,
         bits: &[
@@ -152,9 +216,11 @@ const CASES: [Laid; 10] = [
         draft: Draft {
             types: RGB,
             entries: OCTETS,
-            packing: [0, 1, 0, 0],
-            sizes: [65_535, 0, 0, 0, 0],
-            frame: [2, 2],
+            interleave: Pixel,
+            pixel_size: 65_535,
+            width: 2,
+            height: 2,
+            ..PLAIN
         },
         size: 262_140,
         bits: &[Bit(0, 1, 0, 0, 65_535, 7), Bit(2, 1, 1, 7, 196_607, 0)],
@@ -162,6 +228,6 @@ const CASES: [Laid; 10] = [
 ];
 
 #[test]
-fn pixel_sizes(rt: HostRuntime) {
-    all(&rt, &CASES);
+fn pixel_sizes(rt: HostRuntime) -> Result<(), Fail> {
+    all(&rt, rt.alloc(), &CASES)
 }

@@ -1,16 +1,20 @@
 // Lines of many values, in which the pattern of blocks or bytes comes round again and again.
-use crate::draft::{Draft, Entry, MONO, RGB, YUV};
 use crate::laid::{Bit, Laid, all};
+use boxes::Format::Integer;
+use boxes::Interleave::{MultiY, Pixel};
+use boxes::Sampling::Yuv411;
+use std::test::*;
+use test_boxes::{Draft, Entry, Flag, MONO, PLAIN, RGB, YUV};
 
 const CASES: [Laid; 13] = [
     // one bit to a value
     Laid {
         draft: Draft {
             types: MONO,
-            entries: &[Entry(0, 1, 0, 0)],
-            packing: [0, 0, 0, 0],
-            sizes: [0; 5],
-            frame: [32_768, 1],
+            entries: &[Entry(0, 1, Integer, 0)],
+            width: 32_768,
+            height: 1,
+            ..PLAIN
         },
         size: 4096,
         bits: &[Bit(0, 32_767, 0, 0, 4095, 0), Bit(0, 16_384, 0, 0, 2048, 7)],
@@ -19,10 +23,10 @@ const CASES: [Laid; 13] = [
     Laid {
         draft: Draft {
             types: MONO,
-            entries: &[Entry(0, 13, 0, 0)],
-            packing: [0, 0, 0, 0],
-            sizes: [0; 5],
-            frame: [32_768, 1],
+            entries: &[Entry(0, 13, Integer, 0)],
+            width: 32_768,
+            height: 1,
+            ..PLAIN
         },
         size: 53_248,
         bits: &[
@@ -35,10 +39,15 @@ const CASES: [Laid; 13] = [
     Laid {
         draft: Draft {
             types: RGB,
-            entries: &[Entry(0, 3, 0, 0), Entry(1, 15, 0, 2), Entry(2, 7, 0, 0)],
-            packing: [0, 1, 0, 0],
-            sizes: [0; 5],
-            frame: [32_768, 1],
+            entries: &[
+                Entry(0, 3, Integer, 0),
+                Entry(1, 15, Integer, 2),
+                Entry(2, 7, Integer, 0),
+            ],
+            interleave: Pixel,
+            width: 32_768,
+            height: 1,
+            ..PLAIN
         },
         size: 131_072,
         bits: &[
@@ -53,10 +62,12 @@ const CASES: [Laid; 13] = [
     Laid {
         draft: Draft {
             types: RGB,
-            entries: &[Entry(0, 10, 0, 0)],
-            packing: [0, 1, 4, 0],
-            sizes: [0; 5],
-            frame: [32_768, 1],
+            entries: &[Entry(0, 10, Integer, 0)],
+            interleave: Pixel,
+            block: 4,
+            width: 32_768,
+            height: 1,
+            ..PLAIN
         },
         size: 43_692,
         bits: &[
@@ -70,10 +81,17 @@ const CASES: [Laid; 13] = [
     Laid {
         draft: Draft {
             types: RGB,
-            entries: &[Entry(0, 7, 0, 0), Entry(1, 11, 0, 0), Entry(2, 13, 0, 0)],
-            packing: [0, 1, 4, 0x40],
-            sizes: [0; 5],
-            frame: [32_768, 1],
+            entries: &[
+                Entry(0, 7, Integer, 0),
+                Entry(1, 11, Integer, 0),
+                Entry(2, 13, Integer, 0),
+            ],
+            interleave: Pixel,
+            block: 4,
+            flags: Flag::PAD_LOW,
+            width: 32_768,
+            height: 1,
+            ..PLAIN
         },
         size: 131_072,
         bits: &[
@@ -87,10 +105,17 @@ const CASES: [Laid; 13] = [
     Laid {
         draft: Draft {
             types: RGB,
-            entries: &[Entry(0, 7, 0, 0), Entry(1, 11, 0, 0), Entry(2, 13, 0, 0)],
-            packing: [0, 1, 8, 0x50],
-            sizes: [0; 5],
-            frame: [32_768, 1],
+            entries: &[
+                Entry(0, 7, Integer, 0),
+                Entry(1, 11, Integer, 0),
+                Entry(2, 13, Integer, 0),
+            ],
+            interleave: Pixel,
+            block: 8,
+            flags: Flag::PAD_LOW | Flag::BLOCK_REVERSED,
+            width: 32_768,
+            height: 1,
+            ..PLAIN
         },
         size: 131_072,
         bits: &[
@@ -104,10 +129,17 @@ const CASES: [Laid; 13] = [
     Laid {
         draft: Draft {
             types: RGB,
-            entries: &[Entry(0, 1, 0, 0), Entry(1, 62, 0, 0), Entry(2, 3, 0, 0)],
-            packing: [0, 1, 8, 0x10],
-            sizes: [0; 5],
-            frame: [32_768, 1],
+            entries: &[
+                Entry(0, 1, Integer, 0),
+                Entry(1, 62, Integer, 0),
+                Entry(2, 3, Integer, 0),
+            ],
+            interleave: Pixel,
+            block: 8,
+            flags: Flag::BLOCK_REVERSED,
+            width: 32_768,
+            height: 1,
+            ..PLAIN
         },
         size: 524_288,
         bits: &[
@@ -121,10 +153,13 @@ const CASES: [Laid; 13] = [
     Laid {
         draft: Draft {
             types: RGB,
-            entries: &[Entry(0, 33, 0, 0)],
-            packing: [0, 1, 8, 0x20],
-            sizes: [0; 5],
-            frame: [32_768, 1],
+            entries: &[Entry(0, 33, Integer, 0)],
+            interleave: Pixel,
+            block: 8,
+            flags: Flag::BLOCK_LITTLE_ENDIAN,
+            width: 32_768,
+            height: 1,
+            ..PLAIN
         },
         size: 262_144,
         bits: &[
@@ -138,10 +173,13 @@ const CASES: [Laid; 13] = [
     Laid {
         draft: Draft {
             types: RGB,
-            entries: &[Entry(0, 5, 0, 0), Entry(1, 7, 0, 0)],
-            packing: [0, 1, 3, 0x10],
-            sizes: [0; 5],
-            frame: [32_768, 1],
+            entries: &[Entry(0, 5, Integer, 0), Entry(1, 7, Integer, 0)],
+            interleave: Pixel,
+            block: 3,
+            flags: Flag::BLOCK_REVERSED,
+            width: 32_768,
+            height: 1,
+            ..PLAIN
         },
         size: 49_152,
         bits: &[
@@ -156,26 +194,29 @@ const CASES: [Laid; 13] = [
         draft: Draft {
             types: &[0, 0, 0, 0, 0, 0, 0, 0, 0, 0, 0, 0, 0, 0, 0, 0],
             entries: &[
-                Entry(0, 1, 0, 0),
-                Entry(1, 2, 0, 0),
-                Entry(2, 3, 0, 0),
-                Entry(3, 4, 0, 0),
-                Entry(4, 5, 0, 0),
-                Entry(5, 6, 0, 0),
-                Entry(6, 7, 0, 0),
-                Entry(7, 8, 0, 0),
-                Entry(8, 9, 0, 0),
-                Entry(9, 10, 0, 0),
-                Entry(10, 11, 0, 0),
-                Entry(11, 12, 0, 0),
-                Entry(12, 13, 0, 0),
-                Entry(13, 14, 0, 0),
-                Entry(14, 15, 0, 0),
-                Entry(15, 16, 0, 0),
+                Entry(0, 1, Integer, 0),
+                Entry(1, 2, Integer, 0),
+                Entry(2, 3, Integer, 0),
+                Entry(3, 4, Integer, 0),
+                Entry(4, 5, Integer, 0),
+                Entry(5, 6, Integer, 0),
+                Entry(6, 7, Integer, 0),
+                Entry(7, 8, Integer, 0),
+                Entry(8, 9, Integer, 0),
+                Entry(9, 10, Integer, 0),
+                Entry(10, 11, Integer, 0),
+                Entry(11, 12, Integer, 0),
+                Entry(12, 13, Integer, 0),
+                Entry(13, 14, Integer, 0),
+                Entry(14, 15, Integer, 0),
+                Entry(15, 16, Integer, 0),
             ],
-            packing: [0, 1, 3, 0x10],
-            sizes: [0; 5],
-            frame: [1000, 1],
+            interleave: Pixel,
+            block: 3,
+            flags: Flag::BLOCK_REVERSED,
+            width: 1000,
+            height: 1,
+            ..PLAIN
         },
         size: 24_000,
         bits: &[
@@ -189,26 +230,27 @@ const CASES: [Laid; 13] = [
         draft: Draft {
             types: &[0, 0, 0, 0, 0, 0, 0, 0, 0, 0, 0, 0, 0, 0, 0, 0],
             entries: &[
-                Entry(0, 1, 0, 0),
-                Entry(1, 2, 0, 0),
-                Entry(2, 3, 0, 0),
-                Entry(3, 4, 0, 0),
-                Entry(4, 5, 0, 0),
-                Entry(5, 6, 0, 0),
-                Entry(6, 7, 0, 0),
-                Entry(7, 8, 0, 0),
-                Entry(8, 9, 0, 0),
-                Entry(9, 10, 0, 0),
-                Entry(10, 11, 0, 0),
-                Entry(11, 12, 0, 0),
-                Entry(12, 13, 0, 0),
-                Entry(13, 14, 0, 0),
-                Entry(14, 15, 0, 0),
-                Entry(15, 16, 0, 0),
+                Entry(0, 1, Integer, 0),
+                Entry(1, 2, Integer, 0),
+                Entry(2, 3, Integer, 0),
+                Entry(3, 4, Integer, 0),
+                Entry(4, 5, Integer, 0),
+                Entry(5, 6, Integer, 0),
+                Entry(6, 7, Integer, 0),
+                Entry(7, 8, Integer, 0),
+                Entry(8, 9, Integer, 0),
+                Entry(9, 10, Integer, 0),
+                Entry(10, 11, Integer, 0),
+                Entry(11, 12, Integer, 0),
+                Entry(12, 13, Integer, 0),
+                Entry(13, 14, Integer, 0),
+                Entry(14, 15, Integer, 0),
+                Entry(15, 16, Integer, 0),
             ],
-            packing: [0, 1, 0, 0],
-            sizes: [0; 5],
-            frame: [1000, 1],
+            interleave: Pixel,
+            width: 1000,
+            height: 1,
+            ..PLAIN
         },
         size: 17_000,
         bits: &[Bit(6, 1, 0, 0, 19, 2), Bit(15, 999, 0, 15, 16_999, 0)],
@@ -218,16 +260,20 @@ const CASES: [Laid; 13] = [
         draft: Draft {
             types: YUV,
             entries: &[
-                Entry(0, 9, 0, 0),
-                Entry(0, 9, 0, 0),
-                Entry(1, 7, 0, 0),
-                Entry(0, 9, 0, 0),
-                Entry(2, 5, 0, 0),
-                Entry(0, 9, 0, 0),
+                Entry(0, 9, Integer, 0),
+                Entry(0, 9, Integer, 0),
+                Entry(1, 7, Integer, 0),
+                Entry(0, 9, Integer, 0),
+                Entry(2, 5, Integer, 0),
+                Entry(0, 9, Integer, 0),
             ],
-            packing: [3, 5, 4, 0x50],
-            sizes: [0; 5],
-            frame: [32_768, 1],
+            sampling: Yuv411,
+            interleave: MultiY,
+            block: 4,
+            flags: Flag::PAD_LOW | Flag::BLOCK_REVERSED,
+            width: 32_768,
+            height: 1,
+            ..PLAIN
         },
         size: 54_616,
         bits: &[
@@ -242,16 +288,19 @@ const CASES: [Laid; 13] = [
         draft: Draft {
             types: YUV,
             entries: &[
-                Entry(0, 9, 0, 0),
-                Entry(0, 9, 0, 0),
-                Entry(1, 7, 0, 0),
-                Entry(0, 9, 0, 0),
-                Entry(2, 5, 0, 0),
-                Entry(0, 9, 0, 0),
+                Entry(0, 9, Integer, 0),
+                Entry(0, 9, Integer, 0),
+                Entry(1, 7, Integer, 0),
+                Entry(0, 9, Integer, 0),
+                Entry(2, 5, Integer, 0),
+                Entry(0, 9, Integer, 0),
             ],
-            packing: [3, 5, 4, 0],
-            sizes: [0; 5],
-            frame: [32_768, 1],
+            sampling: Yuv411,
+            interleave: MultiY,
+            block: 4,
+            width: 32_768,
+            height: 1,
+            ..PLAIN
         },
         size: 54_616,
         bits: &[Bit(0, 5, 0, 8, 9, 5), Bit(2, 8191, 0, 4, 54_611, 0)],
@@ -259,6 +308,6 @@ const CASES: [Laid; 13] = [
 ];
 
 #[test]
-fn wide_lines(rt: HostRuntime) {
-    all(&rt, &CASES);
+fn wide_lines(rt: HostRuntime) -> Result<(), Fail> {
+    all(&rt, rt.alloc(), &CASES)
 }

@@ -1,16 +1,24 @@
 // Values without blocks: packed, and in words of their own in both byte orders.
-use crate::draft::{Draft, Entry, MONO, RGB};
 use crate::laid::{Bit, Laid, all};
+use boxes::Format::{Complex, Float, Integer};
+use boxes::Interleave::{Pixel, Row};
+use std::test::*;
+use test_boxes::{Draft, Entry, Flag, MONO, PLAIN, RGB};
 
 const CASES: [Laid; 10] = [
     // words of 1, 2 and 3 bytes, high byte first
     Laid {
         draft: Draft {
             types: RGB,
-            entries: &[Entry(0, 7, 0, 1), Entry(1, 12, 0, 2), Entry(2, 17, 0, 3)],
-            packing: [0, 1, 0, 0],
-            sizes: [0; 5],
-            frame: [2, 1],
+            entries: &[
+                Entry(0, 7, Integer, 1),
+                Entry(1, 12, Integer, 2),
+                Entry(2, 17, Integer, 3),
+            ],
+            interleave: Pixel,
+            width: 2,
+            height: 1,
+            ..PLAIN
         },
         size: 12,
         bits: &[
@@ -25,10 +33,10 @@ const CASES: [Laid; 10] = [
     Laid {
         draft: Draft {
             types: MONO,
-            entries: &[Entry(0, 63, 0, 8)],
-            packing: [0, 0, 0, 0],
-            sizes: [0; 5],
-            frame: [2, 2],
+            entries: &[Entry(0, 63, Integer, 8)],
+            width: 2,
+            height: 2,
+            ..PLAIN
         },
         size: 32,
         bits: &[Bit(0, 0, 0, 62, 7, 0), Bit(0, 1, 1, 7, 25, 7)],
@@ -37,10 +45,11 @@ const CASES: [Laid; 10] = [
     Laid {
         draft: Draft {
             types: &[0, 0],
-            entries: &[Entry(0, 32, 1, 5), Entry(1, 32, 2, 7)],
-            packing: [0, 3, 0, 0],
-            sizes: [0; 5],
-            frame: [2, 1],
+            entries: &[Entry(0, 32, Float, 5), Entry(1, 32, Complex, 7)],
+            interleave: Row,
+            width: 2,
+            height: 1,
+            ..PLAIN
         },
         size: 24,
         bits: &[Bit(0, 1, 0, 0, 6, 7), Bit(1, 1, 0, 31, 23, 0)],
@@ -49,10 +58,16 @@ const CASES: [Laid; 10] = [
     Laid {
         draft: Draft {
             types: RGB,
-            entries: &[Entry(0, 7, 0, 1), Entry(1, 12, 0, 2), Entry(2, 17, 0, 3)],
-            packing: [0, 1, 0, 0x80],
-            sizes: [0; 5],
-            frame: [2, 1],
+            entries: &[
+                Entry(0, 7, Integer, 1),
+                Entry(1, 12, Integer, 2),
+                Entry(2, 17, Integer, 3),
+            ],
+            interleave: Pixel,
+            flags: Flag::COMPONENTS_LITTLE_ENDIAN,
+            width: 2,
+            height: 1,
+            ..PLAIN
         },
         size: 12,
         bits: &[
@@ -67,10 +82,11 @@ const CASES: [Laid; 10] = [
     Laid {
         draft: Draft {
             types: MONO,
-            entries: &[Entry(0, 63, 0, 8)],
-            packing: [0, 0, 0, 0x80],
-            sizes: [0; 5],
-            frame: [2, 2],
+            entries: &[Entry(0, 63, Integer, 8)],
+            flags: Flag::COMPONENTS_LITTLE_ENDIAN,
+            width: 2,
+            height: 2,
+            ..PLAIN
         },
         size: 32,
         bits: &[Bit(0, 0, 0, 62, 0, 0), Bit(0, 1, 1, 7, 30, 7)],
@@ -79,10 +95,12 @@ const CASES: [Laid; 10] = [
     Laid {
         draft: Draft {
             types: &[0, 0],
-            entries: &[Entry(0, 32, 1, 5), Entry(1, 32, 2, 7)],
-            packing: [0, 3, 0, 0x80],
-            sizes: [0; 5],
-            frame: [2, 1],
+            entries: &[Entry(0, 32, Float, 5), Entry(1, 32, Complex, 7)],
+            interleave: Row,
+            flags: Flag::COMPONENTS_LITTLE_ENDIAN,
+            width: 2,
+            height: 1,
+            ..PLAIN
         },
         size: 24,
         bits: &[Bit(0, 1, 0, 0, 8, 7), Bit(1, 1, 0, 31, 17, 0)],
@@ -91,10 +109,15 @@ const CASES: [Laid; 10] = [
     Laid {
         draft: Draft {
             types: RGB,
-            entries: &[Entry(0, 3, 0, 0), Entry(1, 7, 0, 1), Entry(2, 2, 0, 0)],
-            packing: [0, 1, 0, 0],
-            sizes: [0; 5],
-            frame: [3, 1],
+            entries: &[
+                Entry(0, 3, Integer, 0),
+                Entry(1, 7, Integer, 1),
+                Entry(2, 2, Integer, 0),
+            ],
+            interleave: Pixel,
+            width: 3,
+            height: 1,
+            ..PLAIN
         },
         size: 7,
         bits: &[
@@ -109,10 +132,10 @@ const CASES: [Laid; 10] = [
     Laid {
         draft: Draft {
             types: MONO,
-            entries: &[Entry(0, 64, 0, 0)],
-            packing: [0, 0, 0, 0],
-            sizes: [0; 5],
-            frame: [2, 1],
+            entries: &[Entry(0, 64, Integer, 0)],
+            width: 2,
+            height: 1,
+            ..PLAIN
         },
         size: 16,
         bits: &[Bit(0, 0, 0, 63, 7, 0), Bit(0, 1, 0, 9, 9, 6)],
@@ -121,10 +144,10 @@ const CASES: [Laid; 10] = [
     Laid {
         draft: Draft {
             types: MONO,
-            entries: &[Entry(0, 1, 0, 0)],
-            packing: [0, 0, 0, 0],
-            sizes: [0; 5],
-            frame: [17, 2],
+            entries: &[Entry(0, 1, Integer, 0)],
+            width: 17,
+            height: 2,
+            ..PLAIN
         },
         size: 6,
         bits: &[
@@ -137,10 +160,15 @@ const CASES: [Laid; 10] = [
     Laid {
         draft: Draft {
             types: &[0, 0, 0],
-            entries: &[Entry(0, 16, 1, 0), Entry(1, 64, 1, 0), Entry(2, 64, 2, 0)],
-            packing: [0, 1, 0, 0],
-            sizes: [0; 5],
-            frame: [2, 1],
+            entries: &[
+                Entry(0, 16, Float, 0),
+                Entry(1, 64, Float, 0),
+                Entry(2, 64, Complex, 0),
+            ],
+            interleave: Pixel,
+            width: 2,
+            height: 1,
+            ..PLAIN
         },
         size: 36,
         bits: &[
@@ -152,6 +180,6 @@ const CASES: [Laid; 10] = [
 ];
 
 #[test]
-fn packed_values_and_words(rt: HostRuntime) {
-    all(&rt, &CASES);
+fn packed_values_and_words(rt: HostRuntime) -> Result<(), Fail> {
+    all(&rt, rt.alloc(), &CASES)
 }

@@ -1,6 +1,10 @@
 // The worked cases of docs/FORMAT.md.
-use crate::draft::{Draft, Entry, MONO, OCTETS, RGB, YUV};
 use crate::laid::{Bit, Laid, all};
+use boxes::Format::Integer;
+use boxes::Interleave::{MultiY, Pixel, TileComponent};
+use boxes::Sampling::{Yuv420, Yuv422};
+use std::test::*;
+use test_boxes::{Draft, Entry, Flag, MONO, OCTETS, PLAIN, RGB, YUV};
 
 const CASES: [Laid; 9] = [
     // packed values and a word in one pixel
@@ -8,14 +12,15 @@ const CASES: [Laid; 9] = [
         draft: Draft {
             types: &[4, 5, 6, 7],
             entries: &[
-                Entry(0, 10, 0, 0),
-                Entry(1, 10, 0, 0),
-                Entry(2, 10, 0, 0),
-                Entry(3, 7, 0, 1),
+                Entry(0, 10, Integer, 0),
+                Entry(1, 10, Integer, 0),
+                Entry(2, 10, Integer, 0),
+                Entry(3, 7, Integer, 1),
             ],
-            packing: [0, 1, 0, 0],
-            sizes: [0; 5],
-            frame: [1, 1],
+            interleave: Pixel,
+            width: 1,
+            height: 1,
+            ..PLAIN
         },
         size: 5,
         bits: &[
@@ -32,9 +37,12 @@ const CASES: [Laid; 9] = [
         draft: Draft {
             types: RGB,
             entries: OCTETS,
-            packing: [0, 1, 4, 0x40],
-            sizes: [0; 5],
-            frame: [2, 1],
+            interleave: Pixel,
+            block: 4,
+            flags: Flag::PAD_LOW,
+            width: 2,
+            height: 1,
+            ..PLAIN
         },
         size: 8,
         bits: &[
@@ -48,9 +56,13 @@ const CASES: [Laid; 9] = [
         draft: Draft {
             types: RGB,
             entries: OCTETS,
-            packing: [0, 1, 4, 0x40],
-            sizes: [4, 0, 0, 0, 0],
-            frame: [2, 1],
+            interleave: Pixel,
+            block: 4,
+            flags: Flag::PAD_LOW,
+            pixel_size: 4,
+            width: 2,
+            height: 1,
+            ..PLAIN
         },
         size: 8,
         bits: &[
@@ -64,14 +76,18 @@ const CASES: [Laid; 9] = [
         draft: Draft {
             types: YUV,
             entries: &[
-                Entry(1, 10, 0, 0),
-                Entry(0, 10, 0, 0),
-                Entry(2, 10, 0, 0),
-                Entry(0, 10, 0, 0),
+                Entry(1, 10, Integer, 0),
+                Entry(0, 10, Integer, 0),
+                Entry(2, 10, Integer, 0),
+                Entry(0, 10, Integer, 0),
             ],
-            packing: [1, 5, 4, 0x30],
-            sizes: [0; 5],
-            frame: [6, 1],
+            sampling: Yuv422,
+            interleave: MultiY,
+            block: 4,
+            flags: Flag::BLOCK_LITTLE_ENDIAN | Flag::BLOCK_REVERSED,
+            width: 6,
+            height: 1,
+            ..PLAIN
         },
         size: 16,
         bits: &[
@@ -88,9 +104,10 @@ const CASES: [Laid; 9] = [
         draft: Draft {
             types: YUV,
             entries: OCTETS,
-            packing: [2, 0, 0, 0],
-            sizes: [0; 5],
-            frame: [4, 2],
+            sampling: Yuv420,
+            width: 4,
+            height: 2,
+            ..PLAIN
         },
         size: 12,
         bits: &[
@@ -104,9 +121,11 @@ const CASES: [Laid; 9] = [
         draft: Draft {
             types: YUV,
             entries: OCTETS,
-            packing: [2, 0, 0, 0],
-            sizes: [0, 4, 0, 0, 0],
-            frame: [4, 2],
+            sampling: Yuv420,
+            row_align: 4,
+            width: 4,
+            height: 2,
+            ..PLAIN
         },
         size: 16,
         bits: &[
@@ -119,10 +138,11 @@ const CASES: [Laid; 9] = [
     Laid {
         draft: Draft {
             types: MONO,
-            entries: &[Entry(0, 8, 0, 0)],
-            packing: [0, 0, 0, 0],
-            sizes: [0, 0, 0, 1, 0],
-            frame: [4, 2],
+            entries: &[Entry(0, 8, Integer, 0)],
+            tile_columns_less_one: 1,
+            width: 4,
+            height: 2,
+            ..PLAIN
         },
         size: 8,
         bits: &[
@@ -136,10 +156,11 @@ const CASES: [Laid; 9] = [
     Laid {
         draft: Draft {
             types: &[0, 0],
-            entries: &[Entry(0, 8, 0, 0), Entry(1, 8, 0, 0)],
-            packing: [0, 0, 0, 0],
-            sizes: [0, 0, 0, 1, 0],
-            frame: [4, 1],
+            entries: &[Entry(0, 8, Integer, 0), Entry(1, 8, Integer, 0)],
+            tile_columns_less_one: 1,
+            width: 4,
+            height: 1,
+            ..PLAIN
         },
         size: 8,
         bits: &[
@@ -153,10 +174,12 @@ const CASES: [Laid; 9] = [
     Laid {
         draft: Draft {
             types: &[0, 0],
-            entries: &[Entry(0, 8, 0, 0), Entry(1, 8, 0, 0)],
-            packing: [0, 4, 0, 0],
-            sizes: [0, 0, 0, 1, 0],
-            frame: [4, 1],
+            entries: &[Entry(0, 8, Integer, 0), Entry(1, 8, Integer, 0)],
+            interleave: TileComponent,
+            tile_columns_less_one: 1,
+            width: 4,
+            height: 1,
+            ..PLAIN
         },
         size: 8,
         bits: &[
@@ -169,6 +192,6 @@ const CASES: [Laid; 9] = [
 ];
 
 #[test]
-fn worked_cases(rt: HostRuntime) {
-    all(&rt, &CASES);
+fn worked_cases(rt: HostRuntime) -> Result<(), Fail> {
+    all(&rt, rt.alloc(), &CASES)
 }
