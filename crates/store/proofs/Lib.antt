@@ -3,4 +3,3 @@ pub mod Comparing
 pub mod Counting
 pub mod Seams
 pub mod Turning
-pub mod Views

@@ -1,20 +1,6 @@
-use Rattle.std.proofs.Common.{◌≡◌, ℕ, ◌+◌, List, ◌∷◌, drop, length, length-drop, refl, sym, ap, ◌∙◌, inl, inr, arith}
+use Rattle.std.proofs.Common.{◌≡◌, ℕ, ◌+◌, List, ◌∷◌, drop, length, length-drop, sym, ap, ◌∙◌, inl, inr, arith}
 use Rattle.store.proofs.Counting.{left_after, copy_turn, copy_end}
 use Rattle.store.proofs.copying.copy.Goals as goal
-
-pub loop-at-init : goal.loop-at-init
-loop-at-init g c =
-    let iterator = c.into_iter-at-iterator.result in
-    let made = c.into_iter-at-iterator.ensures.into_iter_gives in
-    let start : iterator.a.start ≡ 0 = ap (λ z. z.a.start) made ∙ ap (λ r. r.start) c.zip-at-items.ensures.first in
-    let bytes = ap (λ z. z.b) made ∙ c.zip-at-items.ensures.second in
-    record {
-      until = ap (λ z. z.a.end) made ∙ ap (λ r. r.end) c.zip-at-items.ensures.first;
-      within = omega arith;
-      left = ap (λ b. drop b.at (g.S.Source.bytes b.source.now)) bytes ∙ c.new.ensures ∙ ap (λ i. drop i (g.S.Source.bytes c.args.from.now)) (sym start);
-      copied = rw start refl;
-      kept = refl;
-    }
 
 pub loop-at-preserved : goal.loop-at-preserved
 loop-at-preserved g c =
@@ -33,15 +19,11 @@ loop-at-preserved g c =
       kept = c.write.ensures.beside ∙ c.loop-at.invariant.kept;
     }
 
-pub returns : goal.returns
-returns g c =
+pub returns-clause-after : goal.returns-clause-after
+returns-clause-after g c =
     let from : List ℕ = g.S.Source.bytes c.args.from.now in
     let to : List ℕ = g.T.Source.bytes c.args.to.now in
     let at : ℕ = c.loop-at.at-iterator.a.start in
     let all : at ≡ c.min-count.result =
     (elim c.in-None.ensures.steps [ inl n ↦ omega arith | inr n ↦ omega (arith, length-drop at from, ap length (sym c.loop-at.invariant.left ∙ n.1.0)) ]) in
-    record {
-      count = omega arith;
-      after = c.loop-at.invariant.copied ∙ copy_end from to at (omega arith);
-      beside = c.loop-at.invariant.kept;
-    }
+    c.loop-at.invariant.copied ∙ copy_end from to at (omega arith)

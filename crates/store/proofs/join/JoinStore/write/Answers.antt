@@ -1,5 +1,4 @@
-use Rattle.std.proofs.Common.{ℕ, List, ◌++◌, take, sym, refl, ap, ◌∙◌, arith}
-use Rattle.std.proofs.lemmas.List.{set_past}
+use Rattle.std.proofs.Common.{ℕ, List, ◌++◌, take, ap, ◌∙◌, arith}
 use Rattle.store.specs.Ends.{most_bytes}
 use Rattle.store.proofs.Answering.{write_past}
 use Rattle.store.proofs.Seams.{write-first, write-second, set_first, set-second, kept-first, kept_second}
@@ -25,10 +24,5 @@ returns-then-at-len g c =
       beside = kept_second most_bytes xs ys c.args.at (omega arith) (omega arith) c.args.value _ _ _ _ (rw c.len-seam.ensures.is at c.write-then-at-len.ensures.after) c.write-then-at-len.ensures.beside;
     }
 
-pub returns-else-at-len : goal.returns-else-at-len
-returns-else-at-len g c =
-    record {
-      answer = write_past _ _ c.out_of_bounds.ensures (omega arith);
-      after = sym (set_past _ _ _ (omega arith));
-      beside = refl;
-    }
+pub returns-else-at-len-clause-answer : goal.returns-else-at-len-clause-answer
+returns-else-at-len-clause-answer g c = write_past _ _ c.out_of_bounds.ensures (omega arith)

@@ -1,5 +1,5 @@
-use Rattle.std.proofs.Common.{ℕ, zero, suc, ◌<◌, List, [], ◌∷◌, set, sym, refl, ap, arith, length-take}
-use Rattle.std.proofs.lemmas.List.{set_past, drop-set-lt}
+use Rattle.std.proofs.Common.{ℕ, zero, suc, ◌<◌, List, [], ◌∷◌, set, ap, arith, length-take}
+use Rattle.std.proofs.lemmas.List.{drop-set-lt}
 use Rattle.store.specs.Ends.{most_bytes}
 use Rattle.store.specs.Access.{Octets}
 use Rattle.store.specs.Unwritten.{along, nothing}
@@ -29,10 +29,5 @@ returns-then-at-len c =
       beside = ap (λ rest. along (m.buffer.ghost_name ∷ []) (along rest nothing)) (drop-set-lt most_bytes m.buffer.now c.args.at c.args.value (omega arith));
     }
 
-pub returns-else-at-len : goal.returns-else-at-len
-returns-else-at-len c =
-    record {
-      answer = write_past _ _ c.out_of_bounds.ensures (omega arith);
-      after = sym (set_past _ _ _ (omega arith));
-      beside = refl;
-    }
+pub returns-else-at-len-clause-answer : goal.returns-else-at-len-clause-answer
+returns-else-at-len-clause-answer c = write_past _ _ c.out_of_bounds.ensures (omega arith)
