@@ -6,6 +6,8 @@ use crate::entry::Entry;
 use crate::listing::{Listing, Packing, Sizes};
 use choices::{Flags, Format, Interleave, Sampling};
 use fields::Table;
+use std::error::Error;
+use std::fmt;
 
 #[derive(Clone, Copy, Debug, PartialEq, Eq)]
 pub enum Profile {
@@ -17,6 +19,14 @@ pub enum Profile {
 // A word that stands for no profile.
 #[derive(Clone, Copy, Debug, PartialEq, Eq)]
 pub struct UnknownWord(pub u32);
+
+impl fmt::Display for UnknownWord {
+    fn fmt<W: fmt::Write>(&self, f: &mut fmt::Formatter<W>) -> fmt::Result {
+        write!(f, "the word {} stands for no profile", self.0)
+    }
+}
+
+impl Error for UnknownWord {}
 
 impl TryFrom<u32> for Profile {
     type Error = UnknownWord;
