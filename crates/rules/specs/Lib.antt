@@ -3,4 +3,5 @@ pub mod Entries
 pub mod Interleaving
 pub mod Packing
 pub mod Tiles
+pub mod Typing
 pub mod Whole

@@ -1,14 +1,13 @@
 // The rules on single entries: indexes, and depths with formats, types and aligns.
 ghost use Rattle.std.specs.Prelude.{◌≡◌, ◌+◌, ◌<◌, ◌≤◌, [], List, Bool};
-ghost use Rattle.boxes.specs.Pairs.{type_of};
-ghost use Rattle.configuration.specs.Encoded.{listed};
 ghost use Rattle.configuration.specs.declared.entry.Entry.{Entry};
 ghost use Rattle.fault.specs.declared.reason.Reason.TheVariants.{Index, Depth};
 ghost use Rattle.rules.specs.Entries.{lists, indexed, depth_fits, align_fits, deep};
 ghost use Rattle.rules.specs.Rules.{each_keeps};
+ghost use Rattle.rules.specs.Typing.{types, entries, packing};
 
 use crate::refused::refused_at;
-use crate::typed::Typed;
+use crate::typed::{PALETTE, Typed, Y};
 use boxes::{Entry, Format, Interleave};
 use fault::{Fault, Reason};
 
@@ -35,7 +34,9 @@ fn each_keeps<K: Fn(&[Entry], &Entry) -> bool>(
     keeps: K,
 ) -> Result<(), Fault>
     requires { K.IsAlwaysCallable keeps }
-    ensures { (rule : List Entry → Entry → Bool) → ((earlier : _) (entry : _) (kept : Bool) → K.post keeps earlier entry kept → kept ≡ rule earlier.now entry.now) → result ≡ each_keeps rule reason [] entries.now }
+    ensures { (rule : List Entry → Entry → Bool)
+        → ((earlier : _) (entry : _) (kept : Bool) → K.post keeps earlier entry kept → kept ≡ rule earlier.now entry.now)
+        → result ≡ each_keeps rule reason [] entries.now }
 {
     for (i, entry) in entries.iter().enumerate() {
         if !keeps(&entries[..i], entry) {
@@ -55,16 +56,16 @@ fn is_listed(entries: &[Entry], index: u16) -> bool
 impl Typed<'_> {
     // Only interleave 5 lists an index again, and only that of Y.
     fn is_indexed(&self, earlier: &[Entry], entry: &Entry) -> bool
-        ensures { result ≡ indexed (type_of self.now.boxes.now) self.now.listing.now.packing.interleave earlier.now entry.now }
+        ensures { result ≡ indexed (types self.now) (packing self.now).interleave earlier.now entry.now }
     {
         let defined = self.boxes.component_type(entry.index).is_some();
         let again = is_listed(earlier, entry.index);
         let many = self.listing.packing.interleave == Interleave::MultiY;
-        defined && (!again || (many && self.is_of(1, entry)))
+        defined && (!again || (many && self.is_of(Y, entry)))
     }
 
     pub(crate) fn indexes(&self) -> Result<(), Fault>
-        ensures { result ≡ each_keeps (indexed (type_of self.now.boxes.now) self.now.listing.now.packing.interleave) Index [] (listed self.now.listing.now) }
+        ensures { result ≡ each_keeps (indexed (types self.now) (packing self.now).interleave) Index [] (entries self.now) }
     {
         each_keeps(
             self.listing.entries(),
@@ -74,16 +75,16 @@ impl Typed<'_> {
     }
 
     fn is_deep(&self, entry: &Entry) -> bool
-        ensures { result ≡ deep (type_of self.now.boxes.now) [] entry.now }
+        ensures { result ≡ deep (types self.now) [] entry.now }
     {
         let depth = entry.depth();
         depth_fits(entry.format, depth)
-            && (!self.is_of(10, entry) || entry.format == Format::Integer)
+            && (!self.is_of(PALETTE, entry) || entry.format == Format::Integer)
             && align_fits(entry.align, depth)
     }
 
     pub(crate) fn depths(&self) -> Result<(), Fault>
-        ensures { result ≡ each_keeps (deep (type_of self.now.boxes.now)) Depth [] (listed self.now.listing.now) }
+        ensures { result ≡ each_keeps (deep (types self.now)) Depth [] (entries self.now) }
     {
         each_keeps(
             self.listing.entries(),

@@ -1,12 +1,11 @@
 // Which interleaves go with a sampling, and what they list.
 ghost use Rattle.std.specs.Prelude.{◌≡◌, not};
 ghost use Rattle.std.specs.List.{list_all};
-ghost use Rattle.boxes.specs.Pairs.{type_of};
-ghost use Rattle.configuration.specs.Encoded.{listed};
 ghost use Rattle.rules.specs.Entries.{is_of};
 ghost use Rattle.rules.specs.Interleaving.{goes_with, same_of, one_index_of, yuv, is_yuv, alike, list_fits, is_interleaved};
+ghost use Rattle.rules.specs.Typing.{types, entries, packing};
 
-use crate::typed::Typed;
+use crate::typed::{Typed, U, V, Y};
 use boxes::{Entry, Interleave, Sampling};
 
 fn goes_with(sampling: Sampling, interleave: Interleave) -> bool
@@ -44,14 +43,14 @@ fn all_alike(entries: &[Entry]) -> bool
 
 impl Typed<'_> {
     fn is_same(&self, number: u16, a: &Entry, b: &Entry) -> bool
-        ensures { result ≡ same_of (type_of self.now.boxes.now) number a.now b.now }
+        ensures { result ≡ same_of (types self.now) number a.now b.now }
     {
         !(self.is_of(number, a) && self.is_of(number, b)) || a.index == b.index
     }
 
     // Whether no entry is of the type with this number.
     fn lists_none(&self, number: u16) -> bool
-        ensures { result ≡ list_all (λ e. not (is_of (type_of self.now.boxes.now) number e)) (listed self.now.listing.now) }
+        ensures { result ≡ list_all (λ e. not (is_of (types self.now) number e)) (entries self.now) }
     {
         self.listing
             .entries()
@@ -60,7 +59,7 @@ impl Typed<'_> {
     }
 
     fn lists_same_as(&self, number: u16, a: &Entry) -> bool
-        ensures { result ≡ list_all (same_of (type_of self.now.boxes.now) number a.now) (listed self.now.listing.now) }
+        ensures { result ≡ list_all (same_of (types self.now) number a.now) (entries self.now) }
     {
         self.listing
             .entries()
@@ -70,7 +69,7 @@ impl Typed<'_> {
 
     // Whether all entries of the type with this number list one index.
     fn lists_same(&self, number: u16) -> bool
-        ensures { result ≡ list_all (λ a. list_all (same_of (type_of self.now.boxes.now) number a) (listed self.now.listing.now)) (listed self.now.listing.now) }
+        ensures { result ≡ list_all (λ a. list_all (same_of (types self.now) number a) (entries self.now)) (entries self.now) }
     {
         self.listing
             .entries()
@@ -79,37 +78,37 @@ impl Typed<'_> {
     }
 
     fn one_index_of(&self, number: u16) -> bool
-        ensures { result ≡ one_index_of (type_of self.now.boxes.now) number (listed self.now.listing.now) }
+        ensures { result ≡ one_index_of (types self.now) number (entries self.now) }
     {
         !self.lists_none(number) && self.lists_same(number)
     }
 
     // One listed index each of Y, U and V.
     fn has_yuv(&self) -> bool
-        ensures { result ≡ yuv (type_of self.now.boxes.now) (listed self.now.listing.now) }
+        ensures { result ≡ yuv (types self.now) (entries self.now) }
     {
-        self.one_index_of(1) && self.one_index_of(2) && self.one_index_of(3)
+        self.one_index_of(Y) && self.one_index_of(U) && self.one_index_of(V)
     }
 
     fn is_yuv(&self, entry: &Entry) -> bool
-        ensures { result ≡ is_yuv (type_of self.now.boxes.now) entry.now }
+        ensures { result ≡ is_yuv (types self.now) entry.now }
     {
-        self.is_of(1, entry) || self.is_of(2, entry) || self.is_of(3, entry)
+        self.is_of(Y, entry) || self.is_of(U, entry) || self.is_of(V, entry)
     }
 
     fn lists_yuv(&self) -> bool
-        ensures { result ≡ list_all (is_yuv (type_of self.now.boxes.now)) (listed self.now.listing.now) }
+        ensures { result ≡ list_all (is_yuv (types self.now)) (entries self.now) }
     {
         self.listing.entries().iter().all(|e| self.is_yuv(e))
     }
 
     fn list_fits(&self) -> bool
-        ensures { result ≡ list_fits (type_of self.now.boxes.now) self.now.listing.now.packing.sampling self.now.listing.now.packing.interleave (listed self.now.listing.now) }
+        ensures { result ≡ list_fits (types self.now) (packing self.now).sampling (packing self.now).interleave (entries self.now) }
     {
         let entries = self.listing.entries();
         match self.listing.packing.interleave {
             Interleave::Mixed => {
-                entries.len() == 3 && self.lists_yuv() && self.is_of(1, &entries[0])
+                entries.len() == 3 && self.lists_yuv() && self.is_of(Y, &entries[0])
             }
             Interleave::MultiY => {
                 let luma = self.listing.packing.sampling.across();
@@ -120,7 +119,7 @@ impl Typed<'_> {
     }
 
     pub(crate) fn interleaves(&self) -> bool
-        ensures { result ≡ is_interleaved (type_of self.now.boxes.now) self.now.listing.now.packing.sampling self.now.listing.now.packing.interleave (listed self.now.listing.now) }
+        ensures { result ≡ is_interleaved (types self.now) (packing self.now).sampling (packing self.now).interleave (entries self.now) }
     {
         let sampling = self.listing.packing.sampling;
         goes_with(sampling, self.listing.packing.interleave)

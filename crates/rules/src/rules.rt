@@ -1,7 +1,6 @@
 // All rules, in the order of their numbers.
 ghost use Rattle.std.specs.Prelude.{◌≡◌, is_some};
-ghost use Rattle.boxes.specs.Pairs.{type_of};
-ghost use Rattle.configuration.specs.Encoded.{listed};
+ghost use Rattle.rules.specs.Typing.{types, entries};
 ghost use Rattle.rules.specs.Whole.{present_as, list_kept, kept};
 
 use crate::packing::{blocks_fit, sizes_fit};
@@ -22,7 +21,7 @@ fn is_present_as(configuration: &Configuration, present: bool) -> bool
 }
 
 fn check_list(typed: &Typed, width: u32, height: u32) -> Result<(), Fault>
-    ensures { result ≡ list_kept (type_of typed.now.boxes.now) typed.now.listing.now (listed typed.now.listing.now) width height }
+    ensures { result ≡ list_kept (types typed.now) typed.now.listing.now (entries typed.now) width height }
 {
     let listing = typed.listing;
     typed.indexes()?;

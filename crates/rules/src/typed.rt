@@ -1,9 +1,17 @@
 // A listing, and the boxes that say which type the component of each index has.
 ghost use Rattle.std.specs.Prelude.{◌≡◌};
-ghost use Rattle.boxes.specs.Pairs.{type_of};
 ghost use Rattle.rules.specs.Entries.{is_of};
 
 use boxes::{Boxes, Entry, Listing};
+
+// The types that the rules know: Y, U and V, and a palette's.
+pub(crate) const Y: u16 = 1;
+
+pub(crate) const U: u16 = 2;
+
+pub(crate) const V: u16 = 3;
+
+pub(crate) const PALETTE: u16 = 10;
 
 #[derive(Clone, Copy)]
 pub(crate) struct Typed<'a> {
@@ -12,9 +20,11 @@ pub(crate) struct Typed<'a> {
 }
 
 impl Typed<'_> {
+    ghost use Rattle.rules.specs.Typing.{types};
+
     // Whether the entry's component has the type with this number.
     pub(crate) fn is_of(&self, number: u16, entry: &Entry) -> bool
-        ensures { result ≡ is_of (type_of self.now.boxes.now) number entry.now }
+        ensures { result ≡ is_of (types self.now) number entry.now }
     {
         self.boxes.component_type(entry.index) == Some(number)
     }
