@@ -68,7 +68,7 @@ impl Typed<'_> {
         ensures { result ≡ each_keeps (indexed (types self.now) (packing self.now).interleave) Index [] (entries self.now) }
     {
         each_keeps(
-            self.listing.entries(),
+            self.entries(),
             Reason::Index,
             |earlier, entry| self.is_indexed(earlier, entry),
         )
@@ -87,7 +87,7 @@ impl Typed<'_> {
         ensures { result ≡ each_keeps (deep (types self.now)) Depth [] (entries self.now) }
     {
         each_keeps(
-            self.listing.entries(),
+            self.entries(),
             Reason::Depth,
             |_, entry| self.is_deep(entry),
         )

@@ -52,29 +52,20 @@ impl Typed<'_> {
     fn lists_none(&self, number: u16) -> bool
         ensures { result ≡ list_all (λ e. not (is_of (types self.now) number e)) (entries self.now) }
     {
-        self.listing
-            .entries()
-            .iter()
-            .all(|e| !self.is_of(number, e))
+        self.entries().iter().all(|e| !self.is_of(number, e))
     }
 
     fn lists_same_as(&self, number: u16, a: &Entry) -> bool
         ensures { result ≡ list_all (same_of (types self.now) number a.now) (entries self.now) }
     {
-        self.listing
-            .entries()
-            .iter()
-            .all(|b| self.is_same(number, a, b))
+        self.entries().iter().all(|b| self.is_same(number, a, b))
     }
 
     // Whether all entries of the type with this number list one index.
     fn lists_same(&self, number: u16) -> bool
         ensures { result ≡ list_all (λ a. list_all (same_of (types self.now) number a) (entries self.now)) (entries self.now) }
     {
-        self.listing
-            .entries()
-            .iter()
-            .all(|a| self.lists_same_as(number, a))
+        self.entries().iter().all(|a| self.lists_same_as(number, a))
     }
 
     fn one_index_of(&self, number: u16) -> bool
@@ -99,13 +90,13 @@ impl Typed<'_> {
     fn lists_yuv(&self) -> bool
         ensures { result ≡ list_all (is_yuv (types self.now)) (entries self.now) }
     {
-        self.listing.entries().iter().all(|e| self.is_yuv(e))
+        self.entries().iter().all(|e| self.is_yuv(e))
     }
 
     fn list_fits(&self) -> bool
         ensures { result ≡ list_fits (types self.now) (packing self.now).sampling (packing self.now).interleave (entries self.now) }
     {
-        let entries = self.listing.entries();
+        let entries = self.entries();
         match self.listing.packing.interleave {
             Interleave::Mixed => {
                 entries.len() == 3 && self.lists_yuv() && self.is_of(Y, &entries[0])

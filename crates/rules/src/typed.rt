@@ -20,7 +20,13 @@ pub(crate) struct Typed<'a> {
 }
 
 impl Typed<'_> {
-    ghost use Rattle.rules.specs.Typing.{types};
+    ghost use Rattle.rules.specs.Typing.{types, entries};
+
+    pub(crate) fn entries(&self) -> &[Entry]
+        ensures { result.now ≡ entries self.now }
+    {
+        self.listing.entries()
+    }
 
     // Whether the entry's component has the type with this number.
     pub(crate) fn is_of(&self, number: u16, entry: &Entry) -> bool
