@@ -69,7 +69,7 @@ impl Blocked<'_> {
         ensures fits { result.bits.0 + depth.0 ≤ 8 * self.now.block.bytes.0 }
         ensures near { result.block ≤ s.block + 1 }
     {
-        if s.bits.0 + depth.0 <= bits_of(self.block.bytes).0 {
+        if s.bits + depth <= bits_of(self.block.bytes) {
             s
         } else {
             State {
@@ -91,10 +91,11 @@ impl Blocked<'_> {
         let mut filled = start;
         for i in from..self.count * each {
             let depth = self.cycle[(i % each) as usize].depth;
-            if filled.0 + depth.0 > bits_of(self.block.bytes).0 {
+            let more = filled + depth;
+            if more > bits_of(self.block.bytes) {
                 return filled;
             }
-            filled = Bits(filled.0 + depth.0);
+            filled = more;
         }
         filled
     }
@@ -113,7 +114,7 @@ impl Blocked<'_> {
             let open = self.open_for(t, entry.depth);
             t = State {
                 block: open.block,
-                bits: Bits(open.bits.0 + entry.depth.0),
+                bits: open.bits + entry.depth,
             };
         }
         t
@@ -152,7 +153,7 @@ impl Blocked<'_> {
         let mut s = first;
         for before in 0..left {
             s = self.rounds(s, 1);
-            if s.bits.0 == first.bits.0 {
+            if s.bits == first.bits {
                 let n = before + 1;
                 let skipped = left / n * (s.block - first.block);
                 let on = State {
@@ -176,7 +177,7 @@ impl Blocked<'_> {
         let s = self.through(self.turn_at(turn), &self.cycle[..slot]);
         let open = self.open_for(s, depth);
         let behind = turn * self.cycle.len() as u64 + slot as u64 + 1;
-        let filled = self.filled_from(Bits(open.bits.0 + depth.0), behind);
+        let filled = self.filled_from(open.bits + depth, behind);
         block_word(self.block, open.block, open.bits, filled, depth)
     }
 
@@ -185,7 +186,11 @@ impl Blocked<'_> {
         ensures near { result ≤ 2 ^ 20 }
     {
         let s = self.turn_at(self.count);
-        if s.bits.0 == 0 { s.block } else { s.block + 1 }
+        if s.bits == Bits(0) {
+            s.block
+        } else {
+            s.block + 1
+        }
     }
 
     pub(crate) fn bytes(&self) -> Bytes

@@ -27,7 +27,9 @@ impl Frame {
         ensures { result ≡ length (strips_by self.now.parts.interleave (view_of self.now.parts)) }
     {
         match self.parts.interleave {
-            Interleave::Component | Interleave::Row | Interleave::TileComponent => self.parts.count,
+            Interleave::Component | Interleave::Row | Interleave::TileComponent => {
+                self.listed().len()
+            }
             Interleave::Pixel | Interleave::MultiY => 1,
             Interleave::Mixed => 2,
         }

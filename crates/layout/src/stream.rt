@@ -37,9 +37,9 @@ fn word_after(little: bool, free: Bits, e: Entry) -> Word
     ensures is { word_in result ≡ packed_word little free.0 (cell_of e) }
     ensures near { (result.first.0 ≤ free.0) × (result.size.0 ≤ 9) }
 {
-    if e.align.0 == 0 {
+    if e.align == Bytes(0) {
         let first = whole_bytes(free);
-        let stop = Bits(free.0 + e.depth.0);
+        let stop = free + e.depth;
         let end = bytes_for(stop);
         Word {
             first,
@@ -66,10 +66,10 @@ fn free_after(free: Bits, e: Entry) -> Bits
     ensures next { result.0 ≡ after free.0 (cell_of e) }
     ensures near { result.0 ≤ free.0 + 71 }
 {
-    if e.align.0 == 0 {
-        Bits(free.0 + e.depth.0)
+    if e.align == Bytes(0) {
+        free + e.depth
     } else {
-        bits_of(Bytes(bytes_for(free).0 + e.align.0))
+        bits_of(bytes_for(free) + e.align)
     }
 }
 

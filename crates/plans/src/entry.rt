@@ -2,13 +2,13 @@
 use crate::units::{Bits, Bytes};
 use boxes::Format;
 
-#[derive(Clone, Copy)]
+#[derive(Clone, Copy, Debug, PartialEq, Eq)]
 pub struct Entry {
     pub index: u16,
     pub component_type: u16,
     pub format: Format,
     pub depth: Bits,
-    // The bytes of the word that holds a value, or 0 where values are packed bit by bit.
+    // The bytes of the word that holds a value, or 0 where values are packed bit by bit, as in the box.
     pub align: Bytes,
     pub columns: u64,
     pub rows: u64,

@@ -37,7 +37,7 @@ impl Layout {
     fn group_of(&self, position: usize) -> Option<usize>
         ensures { result ≡ cond (nat_lt position (length (shown self.now).entries)) (Some (strip_at (shown self.now).interleave position)) None }
     {
-        if position < self.frame.parts.count {
+        if position < self.frame.listed().len() {
             Some(self.frame.group_number(position))
         } else {
             None

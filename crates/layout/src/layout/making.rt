@@ -83,6 +83,7 @@ fn table_of(
     ensures { take (length entries.now) result ≡ map (entry_for (type_of boxes.now) sampling width height) entries.now }
 {
     let mut table = [BLANK; 16];
+    // The table is lent by its index: after an adapter of `iter_mut` a proof knows none of its entries.
     for (i, entry) in entries.iter().enumerate() {
         table[i] = unsettled(boxes, entry);
         settle(&mut table[i], sampling, width, height);

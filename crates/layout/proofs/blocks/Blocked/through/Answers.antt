@@ -14,8 +14,8 @@ open_for-open-requires c =
 pub loop-entry-preserved : goal.loop-entry-preserved
 loop-entry-preserved c = (
   omega (arith, c.loop-entry.invariant.0, c.open_for-open.ensures.near),
-  c.open_for-open.ensures.fits,
-  entry_on c.args.entries.now _ c.loop-entry.entry-index (omega arith) c.loop-entry.invariant.2 c.open_for-open.ensures.is refl refl,
+  omega (arith, c.add.ensures, c.open_for-open.ensures.fits),
+  entry_on c.args.entries.now _ c.loop-entry.entry-index (omega arith) c.loop-entry.invariant.2 c.open_for-open.ensures.is refl c.add.ensures,
 )
 
 pub returns : goal.returns

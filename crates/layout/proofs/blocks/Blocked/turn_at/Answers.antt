@@ -1,8 +1,8 @@
-use Rattle.std.proofs.Common.{◌+◌, ◌-◌, ◌%◌, ◌≤◌, map, mul-le-mul, arith}
+use Rattle.std.proofs.Common.{◌≡◌, rules, ◌+◌, ◌-◌, ◌%◌, ◌≤◌, map, mul-le-mul, arith}
 use Rattle.plans.specs.Cells.{cell_of}
 use Rattle.layout.proofs.Rounds.{Leap, far, leap, turn_more, turns_are, turns_on}
 use Rattle.layout.proofs.blocks.Blocked.turn_at.Goals as goal
-use Rattle.layout.proofs.blocks.Blocked.turn_at.Goals.{Then-s-first}
+use Rattle.layout.proofs.blocks.Blocked.turn_at.Goals.{Then-eq}
 
 pub rounds-s-requires : goal.rounds-s-requires
 rounds-s-requires c =
@@ -11,30 +11,31 @@ rounds-s-requires c =
       low = omega (arith, c.args.self.now.fits.short, far c.args.self.now.cycle.now (c.min-lead.result + c.loop-before.before) (omega arith) c.args.self.now.fits.short c.loop-before.invariant.1);
     }
 
-leaps : (c : Then-s-first)
+leaps : (c : Then-eq)
     → Leap c.args.self.now.block c.args.self.now.cycle.now c.min-lead.result (c.args.turn - c.min-lead.result) (c.loop-before.before + 1) c.rounds-first.result c.rounds-s.result
 leaps c =
+    let same : c.rounds-s.result.bits.0 ≡ c.rounds-first.result.bits.0 = search rules in
     leap c.args.self.now.cycle.now c.min-lead.result (c.args.turn - c.min-lead.result) c.loop-before.before c.args.self.now.fits.short (omega arith)
-    c.rounds-first.ensures.is c.loop-before.invariant.1 c.rounds-s.ensures.is c.if-s-first.true
+    c.rounds-first.ensures.is c.loop-before.invariant.1 c.rounds-s.ensures.is same
 
 pub overflow_sub-skipped : goal.overflow_sub-skipped
-overflow_sub-skipped c = (leaps (goal.at.overflow_sub-skipped c).Then-s-first).up
+overflow_sub-skipped c = (leaps (goal.at.overflow_sub-skipped c).Then-eq).up
 
 pub overflow_mul-skipped : goal.overflow_mul-skipped
-overflow_mul-skipped c = record { fits = omega (arith, (leaps (goal.at.overflow_mul-skipped c).Then-s-first).low) }
+overflow_mul-skipped c = record { fits = omega (arith, (leaps (goal.at.overflow_mul-skipped c).Then-eq).low) }
 
 pub overflow_add-on : goal.overflow_add-on
-overflow_add-on c = record { fits = omega (arith, (leaps (goal.at.overflow_add-on c).Then-s-first).low) }
+overflow_add-on c = record { fits = omega (arith, (leaps (goal.at.overflow_add-on c).Then-eq).low) }
 
 pub rounds-requires : goal.rounds-requires
 rounds-requires c =
-    let l = leaps (goal.at.rounds-requires c).Then-s-first in
+    let l = leaps (goal.at.rounds-requires c).Then-eq in
     let h : (c.args.turn - c.min-lead.result) % (c.loop-before.before + 1) ≤ 32768 = omega (arith, l.rest) in
     record { room = c.rounds-first.ensures.room; low = omega (arith, l.low, mul-le-mul h c.args.self.now.fits.short) }
 
-pub returns-then-s-first : goal.returns-then-s-first
-returns-then-s-first c =
-    let l = leaps (goal.at.returns-then-s-first c).Then-s-first in
+pub returns-then-eq : goal.returns-then-eq
+returns-then-eq c =
+    let l = leaps (goal.at.returns-then-eq c).Then-eq in
     let w =
     turns_are (map cell_of c.args.self.now.cycle.now) _ c.args.turn (omega (arith, l.rest))
     (turns_on (map cell_of c.args.self.now.cycle.now) _ _ l.walk c.rounds.ensures.is) in

@@ -1,12 +1,14 @@
-use Rattle.std.proofs.Common.{◌+◌, ◌*◌, map, length, drop, arith}
+use Rattle.std.proofs.Common.{◌≡◌, ℕ, ◌+◌, ◌*◌, map, length, get_or, drop, ap, ◌∙◌, arith}
 use lib.Arith.{digits_lt}
 use Rattle.std.proofs.lemmas.List.{length-take}
 use Rattle.plans.specs.Cells.{blocks_of, cell_of}
 use Rattle.layout.specs.Words.{word_in}
-use Rattle.layout.proofs.Entries.{within_at, in_blocks-take}
+use Rattle.layout.proofs.Entries.{none, within_at, in_blocks-take}
 use Rattle.layout.proofs.Rounds.{block_word_is, filled_fits}
 use Rattle.layout.proofs.blocks.Blocked.word.Goals as goal
+use Rattle.layout.proofs.blocks.Blocked.word.Goals.{After-filled_from-filled}
 use Rattle.placement.specs.Line.{repeated}
+use Rattle.placement.specs.Pack.{total}
 
 pub through-s-requires : goal.through-s-requires
 through-s-requires c =
@@ -23,18 +25,33 @@ open_for-open-requires c =
 
 pub filled_from-filled-requires : goal.filled_from-filled-requires
 filled_from-filled-requires c =
-    record { some = omega (arith, c.requires.slot); room = c.open_for-open.ensures.fits; inside = omega (arith, digits_lt c.requires.turn c.requires.slot) }
+    record {
+      some = omega (arith, c.requires.slot);
+      room = omega (arith, c.add.ensures, c.open_for-open.ensures.fits);
+      inside = omega (arith, digits_lt c.requires.turn c.requires.slot);
+    }
+
+-- the bits of the block in the end, by its bits before and with the value
+filled : (c : After-filled_from-filled)
+    → c.filled_from-filled.result.0
+    ≡ total (blocks_of c.args.self.now.block) (c.open_for-open.result.bits.0 + (get_or c.args.self.now.cycle.now c.args.slot none).depth.0)
+    (drop (c.args.turn * length c.args.self.now.cycle.now + c.args.slot + 1) (repeated c.args.self.now.count (map cell_of c.args.self.now.cycle.now)))
+filled c =
+    let s = c.args.self.now in
+    c.filled_from-filled.ensures.is
+    ∙ ap (λ (o : ℕ). total (blocks_of s.block) o (drop (c.args.turn * length s.cycle.now + c.args.slot + 1) (repeated s.count (map cell_of s.cycle.now)))) c.add.ensures
 
 pub block_word-requires : goal.block_word-requires
 block_word-requires c =
+    let s = c.args.self.now in
     let f =
-    filled_fits (blocks_of c.args.self.now.block) (drop (c.args.turn * length c.args.self.now.cycle.now + c.args.slot + 1) (repeated c.args.self.now.count (map cell_of c.args.self.now.cycle.now))) _
-    c.filled_from-filled.result.0 c.open_for-open.ensures.fits c.filled_from-filled.ensures.is in
+    filled_fits (blocks_of s.block) (drop (c.args.turn * length s.cycle.now + c.args.slot + 1) (repeated s.count (map cell_of s.cycle.now))) _
+    c.filled_from-filled.result.0 c.open_for-open.ensures.fits (filled (goal.at.block_word-requires c).After-filled_from-filled) in
     record {
       inside = f.0;
       room = f.1;
-      small = c.args.self.now.fits.small;
-      low = omega (arith, c.open_for-open.ensures.near, c.through-s.ensures.near, c.turn_at.ensures.low, c.requires.slot, c.args.self.now.fits.short, length-take c.args.slot c.args.self.now.cycle.now);
+      small = s.fits.small;
+      low = omega (arith, c.open_for-open.ensures.near, c.through-s.ensures.near, c.turn_at.ensures.low, c.requires.slot, s.fits.short, length-take c.args.slot s.cycle.now);
     }
 
 pub returns : goal.returns
@@ -42,7 +59,7 @@ returns c =
     record {
       is = block_word_is c.args.self.now.cycle.now c.args.self.now.count c.args.turn c.args.slot c.filled_from-filled.result.0 (word_in c.block_word.result)
           c.requires.turn c.requires.slot c.turn_at.ensures.is c.through-s.ensures.is c.open_for-open.ensures.is
-          c.filled_from-filled.ensures.is c.block_word.ensures.is;
+          (filled (goal.at.returns c).After-filled_from-filled) c.block_word.ensures.is;
       near = (
         omega (arith, c.block_word.ensures.near.0, c.open_for-open.ensures.near, c.through-s.ensures.near, c.turn_at.ensures.low, c.requires.slot, c.args.self.now.fits.short, length-take c.args.slot c.args.self.now.cycle.now),
         c.block_word.ensures.near.1,
