@@ -1,5 +1,5 @@
 -- Where lines begin stays small.
-use Rattle.std.proofs.Common.{◌≡◌, ℕ, suc, ◌+◌, ◌*◌, ◌^◌, ◌<◌, ◌≤◌, ap, ◌∙◌, mul-le-mul_right, mul-le-mul, arith}
+use Rattle.std.proofs.Common.{◌≡◌, ℕ, suc, ◌+◌, ◌*◌, ◌<◌, ◌≤◌, ap, ◌∙◌, mul-le-mul_right, arith}
 use Rattle.placement.specs.Grid.{summed}
 use Rattle.placement.proofs.Boxes.{summed_mono}
 
@@ -12,12 +12,6 @@ tiles_below tile tiles each size h e s =
 -- three equal numbers in the place of three others
 pub three : (F : ℕ → ℕ → ℕ → ℕ) {a b c x y z : ℕ} → a ≡ x → b ≡ y → c ≡ z → F a b c ≡ F x y z
 three F {a} {b} {c} {x} {y} {z} p q r = ap (λ (n : ℕ). F n b c) p ∙ ap (λ (n : ℕ). F x n c) q ∙ ap (λ (n : ℕ). F x y n) r
-
--- a row of few lines, few times
-pub rows_below : (y row g : ℕ) → y ≤ 32768 → row ≤ g * 2 ^ 33 → g ≤ 16 → y * row ≤ 2 ^ 52
-rows_below y row g a b c =
-    let l : row ≤ 2 ^ 37 = omega arith in
-    omega (arith, mul-le-mul a l)
 
 -- all tiles of a group and of those before it are no more than the frame
 pub groups_below : (F : ℕ → ℕ) (g n : ℕ) → g < n → summed F n ≤ 4294967295 → summed F g + F g ≤ 4294967295

@@ -16,7 +16,7 @@ fn sum_below<F: Fn(usize) -> Bytes>(g: usize, each: F) -> Bytes
     requires callable { (h : ℕ) → h < g → F.pre each h }
     requires small { (h : ℕ) (r : _) → h < g → F.post each h r → r.0 ≤ 2 ^ 53 }
     ensures is { (f : ℕ → ℕ) → ((h : ℕ) (r : _) → h < g → F.post each h r → r.0 ≡ f h) → result.0 ≡ summed f g }
-    ensures near { (m : ℕ) → ((h : ℕ) (r : _) → h < g → F.post each h r → r.0 ≤ m) → result.0 ≤ g * m }
+    ensures near { (m : ℕ) → ((h : ℕ) (r : _) → h < g → F.post each h r → r.0 ≤ m) → result.0 ≤ 16 * m }
 {
     let mut sum = 0;
     for h in 0..g {
@@ -49,7 +49,7 @@ impl Frame {
     pub(crate) fn areas_before(&self, g: usize) -> Bytes
         requires { g ≤ length (strips_by self.now.parts.interleave (view_of self.now.parts)) }
         ensures is { result.0 ≡ summed (area_in (grid (plan_of (view_of self.now.parts)))) g }
-        ensures near { result.0 ≤ g * 2 ^ 48 }
+        ensures near { result.0 ≤ 2 ^ 52 }
     {
         sum_below(g, |h| self.area(h))
     }
@@ -58,7 +58,7 @@ impl Frame {
     pub(crate) fn lines_before(&self, g: usize) -> Bytes
         requires { g ≤ length (strips_by self.now.parts.interleave (view_of self.now.parts)) }
         ensures is { result.0 ≡ summed (line_in (grid (plan_of (view_of self.now.parts)))) g }
-        ensures near { result.0 ≤ g * 2 ^ 33 }
+        ensures near { result.0 ≤ 2 ^ 37 }
     {
         sum_below(g, |h| self.line(h))
     }
@@ -135,7 +135,7 @@ impl Frame {
     fn alone_before(&self, g: usize) -> Bytes
         requires { g ≤ length (strips_by self.now.parts.interleave (view_of self.now.parts)) }
         ensures is { result.0 ≡ summed (tile_of by_tile (grid (plan_of (view_of self.now.parts)))) g }
-        ensures near { result.0 ≤ g * 2 ^ 53 }
+        ensures near { result.0 ≤ 2 ^ 57 }
     {
         sum_below(g, |h| self.tile_alone(h))
     }

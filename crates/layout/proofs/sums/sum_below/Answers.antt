@@ -1,4 +1,4 @@
-use Rattle.std.proofs.Common.{◌^◌, arith}
+use Rattle.std.proofs.Common.{◌^◌, ◌≤◌, mul-le-mul_right, arith}
 use Rattle.layout.proofs.sums.sum_below.Goals as goal
 
 pub overflow_add-sum : goal.overflow_add-sum
@@ -11,3 +11,8 @@ overflow_add-sum g c =
         c.requires.few,
       );
     }
+
+pub returns-clause-near : goal.returns-clause-near
+returns-clause-near g c m p =
+    let few : c.loop-h.h ≤ 16 = omega (arith, c.requires.few) in
+    omega (arith, c.loop-h.invariant.near m p, mul-le-mul_right m few)

@@ -1,4 +1,4 @@
-use Rattle.std.proofs.Common.{◌+◌, ◌*◌, ◌%◌, ◌<◌, ◌≤◌, ℕ, map, length, drop, sym, ap, ◌∙◌, mod-lt, arith, rules}
+use Rattle.std.proofs.Common.{◌+◌, ◌%◌, ◌<◌, ◌≤◌, ℕ, map, length, drop, sym, ap, ◌∙◌, mod-lt, arith, rules}
 use Rattle.plans.specs.Cells.{blocks_of}
 use Rattle.plans.specs.Cells.{cell_of}
 use Rattle.placement.specs.Line.{repeated}

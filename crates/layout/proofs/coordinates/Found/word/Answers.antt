@@ -4,7 +4,6 @@ use Rattle.placement.specs.Grid.{start}
 use Rattle.placement.specs.Line.{Packing, line_word, moved}
 use Rattle.placement.specs.Pack.{Cell}
 use Rattle.placement.specs.Place.{Slot, cells, grid, home, strip, turn_at, slot_at, tile_at, line_at}
-use Rattle.placement.specs.Word.{Word}
 use Rattle.placement.proofs.Places.{tile_below, line_below, entry_below}
 use Rattle.plans.specs.Cells.{cell_of, packing_of}
 use Rattle.plans.specs.Views.{plan_of}

@@ -1,15 +1,10 @@
-use Rattle.std.proofs.Common.{ℕ, ◌*◌, ap, ◌∙◌, arith}
+use Rattle.std.proofs.Common.{ℕ, ◌*◌, ap, ◌∙◌}
 use Rattle.placement.specs.Grid.{by_tile, tile_of}
 use Rattle.placement.specs.Place.{grid}
 use Rattle.layout.specs.Parts.{view_of}
 use Rattle.plans.specs.Views.{plan_of}
-use Rattle.layout.proofs.Summing.{groups_few, summed_times}
+use Rattle.layout.proofs.Summing.{summed_times}
 use Rattle.layout.proofs.frame.Frame.tiles_before.Goals as goal
-
-pub all_tiles-requires : goal.all_tiles-requires
-all_tiles-requires c =
-    let f = c.args.self.now in
-    omega (arith, c.alone_before.ensures.near, c.requires, groups_few (view_of f.parts) f.facts f.parts.interleave)
 
 pub returns : goal.returns
 returns c =

@@ -1,8 +1,7 @@
-use Rattle.std.proofs.Common.{◌≡◌, ℕ, ◌-◌, ◌/◌, ◌%◌, ◌<◌, List, get_or, Ok, Err, Result, sym, ap, ◌∙◌, subst, arith}
+use Rattle.std.proofs.Common.{◌≡◌, ℕ, ◌-◌, ◌/◌, ◌%◌, ◌<◌, List, get_or, Ok, Result, sym, ap, ◌∙◌, subst, arith}
 use Rattle.fault.specs.declared.fault.Fault.{Fault}
 use Rattle.placement.specs.Word.{Word, Whole, spot}
 use Rattle.placement.specs.Place.{depth_of, word_of}
-use Rattle.placement.specs.declared.place.Place.{Place}
 use Rattle.placement.proofs.Words.{words_stand}
 use Rattle.layout.specs.Layouts.{shown}
 use Rattle.layout.specs.Words.{word_in}
@@ -10,7 +9,7 @@ use Rattle.layout.specs.declared.layout.Layout.{Layout}
 use Rattle.plans.specs.Entries.{no_entry}
 use Rattle.plans.specs.Views.{plan_of}
 use Rattle.plans.specs.declared.entry.Entry.{Entry}
-use Rattle.layout.proofs.Located.{found, valid, deep, sound, locate_refused, locate_found}
+use Rattle.layout.proofs.Located.{found, valid, deep, sound, locate_found}
 use Rattle.layout.proofs.layout.Layout.locate.Goals as goal
 use Rattle.layout.proofs.layout.Layout.locate.Goals.{After-word}
 
