@@ -3,7 +3,9 @@ use crate::case::{Case, Edit, Whole};
 use crate::draft::Draft;
 use crate::kind::Kind;
 use crate::samples::{ABGR, DENSE, HEAT_STORED, RGB3, RGB3_LISTED, RGBA};
-use boxes::{Configuration, Entry, Flags, Format, Interleave, Listing, Sampling, Sizes};
+use boxes::Format::{self, Complex, Float, Integer};
+use boxes::{Configuration, Entry, Flags, Interleave, Sampling, Sizes};
+use fault::Reason::{BoxType, Count, Extent, Reserved, Version};
 use std::process::Abort;
 use std::test::*;
 
@@ -38,125 +40,125 @@ const WHOLE: [Whole; 3] = [
 // `DENSE`, of version 0, with one thing wrong.
 const WRONG: [Case; 43] = [
     // size
-    Case(59, &[Edit(0, &[0, 0, 0, 58])], 1, 0),
-    Case(59, &[Edit(0, &[0, 0, 0, 60])], 1, 0),
-    Case(59, &[Edit(0, &[0, 0, 0, 0])], 1, 0),
-    Case(59, &[Edit(0, &[0, 0, 0, 1])], 1, 0),
-    Case(59, &[Edit(0, &[0, 0, 1, 59])], 1, 0),
-    Case(59, &[Edit(0, &[0, 1, 0, 59])], 1, 0),
-    Case(59, &[Edit(0, &[1, 0, 0, 59])], 1, 0),
+    Case(59, &[Edit(0, &[0, 0, 0, 58])], Extent, 0),
+    Case(59, &[Edit(0, &[0, 0, 0, 60])], Extent, 0),
+    Case(59, &[Edit(0, &[0, 0, 0, 0])], Extent, 0),
+    Case(59, &[Edit(0, &[0, 0, 0, 1])], Extent, 0),
+    Case(59, &[Edit(0, &[0, 0, 1, 59])], Extent, 0),
+    Case(59, &[Edit(0, &[0, 1, 0, 59])], Extent, 0),
+    Case(59, &[Edit(0, &[1, 0, 0, 59])], Extent, 0),
     // type word
-    Case(59, &[Edit(4, b"UncC")], 2, 4),
-    Case(59, &[Edit(4, b"uNcC")], 2, 4),
-    Case(59, &[Edit(4, b"unCC")], 2, 4),
-    Case(59, &[Edit(4, b"uncc")], 2, 4),
-    Case(59, &[Edit(4, b"cmpd")], 2, 4),
+    Case(59, &[Edit(4, b"UncC")], BoxType, 4),
+    Case(59, &[Edit(4, b"uNcC")], BoxType, 4),
+    Case(59, &[Edit(4, b"unCC")], BoxType, 4),
+    Case(59, &[Edit(4, b"uncc")], BoxType, 4),
+    Case(59, &[Edit(4, b"cmpd")], BoxType, 4),
     // version
-    Case(59, &[Edit(8, &[2])], 3, 8),
-    Case(59, &[Edit(8, &[255])], 3, 8),
+    Case(59, &[Edit(8, &[2])], Version, 8),
+    Case(59, &[Edit(8, &[255])], Version, 8),
     // box flags
-    Case(59, &[Edit(9, &[1, 0, 0])], 3, 9),
-    Case(59, &[Edit(9, &[0, 1, 0])], 3, 9),
-    Case(59, &[Edit(9, &[0, 0, 1])], 3, 9),
-    Case(59, &[Edit(9, &[0, 0, 128])], 3, 9),
-    Case(59, &[Edit(9, &[255, 255, 255])], 3, 9),
+    Case(59, &[Edit(9, &[1, 0, 0])], Version, 9),
+    Case(59, &[Edit(9, &[0, 1, 0])], Version, 9),
+    Case(59, &[Edit(9, &[0, 0, 1])], Version, 9),
+    Case(59, &[Edit(9, &[0, 0, 128])], Version, 9),
+    Case(59, &[Edit(9, &[255, 255, 255])], Version, 9),
     // count
-    Case(59, &[Edit(16, &[0, 0, 0, 0])], 4, 16),
-    Case(59, &[Edit(16, &[0, 0, 0, 17])], 4, 16),
-    Case(59, &[Edit(16, &[0, 0, 1, 3])], 4, 16),
-    Case(59, &[Edit(16, &[0, 1, 0, 3])], 4, 16),
-    Case(59, &[Edit(16, &[1, 0, 0, 3])], 4, 16),
-    Case(59, &[Edit(16, &[255, 255, 255, 255])], 4, 16),
+    Case(59, &[Edit(16, &[0, 0, 0, 0])], Count, 16),
+    Case(59, &[Edit(16, &[0, 0, 0, 17])], Count, 16),
+    Case(59, &[Edit(16, &[0, 0, 1, 3])], Count, 16),
+    Case(59, &[Edit(16, &[0, 1, 0, 3])], Count, 16),
+    Case(59, &[Edit(16, &[1, 0, 0, 3])], Count, 16),
+    Case(59, &[Edit(16, &[255, 255, 255, 255])], Count, 16),
     // a count that has the later fields begin elsewhere
-    Case(59, &[Edit(16, &[0, 0, 0, 2])], 5, 33),
-    Case(59, &[Edit(16, &[0, 0, 0, 2]), Edit(33, &[0])], 1, 54),
-    Case(59, &[Edit(16, &[0, 0, 0, 4])], 5, 38),
+    Case(59, &[Edit(16, &[0, 0, 0, 2])], Reserved, 33),
+    Case(59, &[Edit(16, &[0, 0, 0, 2]), Edit(33, &[0])], Extent, 54),
+    Case(59, &[Edit(16, &[0, 0, 0, 4])], Reserved, 38),
     Case(
         59,
         &[Edit(16, &[0, 0, 0, 4]), Edit(38, &[0]), Edit(43, &[0])],
-        1,
+        Extent,
         56,
     ),
     // format
-    Case(59, &[Edit(23, &[3])], 5, 23),
-    Case(59, &[Edit(28, &[3])], 5, 28),
-    Case(59, &[Edit(33, &[3])], 5, 33),
+    Case(59, &[Edit(23, &[3])], Reserved, 23),
+    Case(59, &[Edit(28, &[3])], Reserved, 28),
+    Case(59, &[Edit(33, &[3])], Reserved, 33),
     // sampling, interleave and flags
-    Case(59, &[Edit(35, &[4])], 5, 35),
-    Case(59, &[Edit(36, &[6])], 5, 36),
-    Case(59, &[Edit(38, &[0x01])], 5, 38),
-    Case(59, &[Edit(38, &[0x02])], 5, 38),
-    Case(59, &[Edit(38, &[0x04])], 5, 38),
+    Case(59, &[Edit(35, &[4])], Reserved, 35),
+    Case(59, &[Edit(36, &[6])], Reserved, 36),
+    Case(59, &[Edit(38, &[0x01])], Reserved, 38),
+    Case(59, &[Edit(38, &[0x02])], Reserved, 38),
+    Case(59, &[Edit(38, &[0x04])], Reserved, 38),
     // bytes left over
-    Case(60, &[], 1, 59),
-    Case(61, &[], 1, 59),
-    Case(160, &[], 1, 59),
+    Case(60, &[], Extent, 59),
+    Case(61, &[], Extent, 59),
+    Case(160, &[], Extent, 59),
     // a box of version 1, which ends elsewhere
-    Case(59, &[Edit(8, &[1])], 5, 12),
-    Case(59, &[Edit(8, &[1]), Edit(12, b"abgr")], 1, 16),
-    Case(17, &[Edit(8, &[1]), Edit(12, b"rgb3")], 1, 16),
+    Case(59, &[Edit(8, &[1])], Reserved, 12),
+    Case(59, &[Edit(8, &[1]), Edit(12, b"abgr")], Extent, 16),
+    Case(17, &[Edit(8, &[1]), Edit(12, b"rgb3")], Extent, 16),
 ];
 
 // `DENSE`, with two things wrong: the first field's is answered.
 const WRONG_TWICE: [Case; 22] = [
-    Case(59, &[Edit(0, &[9]), Edit(4, b"cmpd")], 1, 0),
-    Case(7, &[Edit(0, &[9])], 1, 0),
-    Case(59, &[Edit(4, b"cmpd"), Edit(8, &[2])], 2, 4),
-    Case(8, &[Edit(4, b"cmpd")], 2, 4),
-    Case(59, &[Edit(8, &[2, 1])], 3, 8),
-    Case(9, &[Edit(8, &[2])], 3, 8),
-    Case(11, &[Edit(8, &[2, 1])], 3, 8),
-    Case(11, &[Edit(9, &[1])], 1, 9),
-    Case(12, &[Edit(9, &[1])], 3, 9),
-    Case(15, &[Edit(9, &[0, 0, 1])], 3, 9),
-    Case(59, &[Edit(9, &[1]), Edit(16, &[1])], 3, 9),
-    Case(19, &[Edit(16, &[1])], 1, 16),
-    Case(20, &[Edit(16, &[1])], 4, 16),
-    Case(59, &[Edit(16, &[1]), Edit(23, &[3])], 4, 16),
-    Case(24, &[Edit(23, &[3])], 5, 23),
-    Case(59, &[Edit(23, &[3]), Edit(28, &[3])], 5, 23),
-    Case(59, &[Edit(33, &[3]), Edit(35, &[4])], 5, 33),
-    Case(59, &[Edit(35, &[4, 6])], 5, 35),
-    Case(36, &[Edit(35, &[4])], 5, 35),
-    Case(59, &[Edit(36, &[6]), Edit(38, &[1])], 5, 36),
-    Case(58, &[Edit(38, &[1])], 5, 38),
-    Case(60, &[Edit(38, &[1])], 5, 38),
+    Case(59, &[Edit(0, &[9]), Edit(4, b"cmpd")], Extent, 0),
+    Case(7, &[Edit(0, &[9])], Extent, 0),
+    Case(59, &[Edit(4, b"cmpd"), Edit(8, &[2])], BoxType, 4),
+    Case(8, &[Edit(4, b"cmpd")], BoxType, 4),
+    Case(59, &[Edit(8, &[2, 1])], Version, 8),
+    Case(9, &[Edit(8, &[2])], Version, 8),
+    Case(11, &[Edit(8, &[2, 1])], Version, 8),
+    Case(11, &[Edit(9, &[1])], Extent, 9),
+    Case(12, &[Edit(9, &[1])], Version, 9),
+    Case(15, &[Edit(9, &[0, 0, 1])], Version, 9),
+    Case(59, &[Edit(9, &[1]), Edit(16, &[1])], Version, 9),
+    Case(19, &[Edit(16, &[1])], Extent, 16),
+    Case(20, &[Edit(16, &[1])], Count, 16),
+    Case(59, &[Edit(16, &[1]), Edit(23, &[3])], Count, 16),
+    Case(24, &[Edit(23, &[3])], Reserved, 23),
+    Case(59, &[Edit(23, &[3]), Edit(28, &[3])], Reserved, 23),
+    Case(59, &[Edit(33, &[3]), Edit(35, &[4])], Reserved, 33),
+    Case(59, &[Edit(35, &[4, 6])], Reserved, 35),
+    Case(36, &[Edit(35, &[4])], Reserved, 35),
+    Case(59, &[Edit(36, &[6]), Edit(38, &[1])], Reserved, 36),
+    Case(58, &[Edit(38, &[1])], Reserved, 38),
+    Case(60, &[Edit(38, &[1])], Reserved, 38),
 ];
 
 // `RGB3`, of version 1, with one or two things wrong.
 const WRONG_BRIEF: [Case; 26] = [
     // size and type word
-    Case(16, &[Edit(0, &[0, 0, 0, 15])], 1, 0),
-    Case(16, &[Edit(0, &[0, 0, 0, 17])], 1, 0),
-    Case(16, &[Edit(4, b"cmpd")], 2, 4),
+    Case(16, &[Edit(0, &[0, 0, 0, 15])], Extent, 0),
+    Case(16, &[Edit(0, &[0, 0, 0, 17])], Extent, 0),
+    Case(16, &[Edit(4, b"cmpd")], BoxType, 4),
     // version and box flags
-    Case(16, &[Edit(8, &[2])], 3, 8),
-    Case(16, &[Edit(9, &[1, 0, 0])], 3, 9),
-    Case(16, &[Edit(9, &[0, 1, 0])], 3, 9),
-    Case(16, &[Edit(9, &[0, 0, 1])], 3, 9),
+    Case(16, &[Edit(8, &[2])], Version, 8),
+    Case(16, &[Edit(9, &[1, 0, 0])], Version, 9),
+    Case(16, &[Edit(9, &[0, 1, 0])], Version, 9),
+    Case(16, &[Edit(9, &[0, 0, 1])], Version, 9),
     // other words
-    Case(16, &[Edit(12, &[0, 0, 0, 0])], 5, 12),
-    Case(16, &[Edit(12, b"Rgb3")], 5, 12),
-    Case(16, &[Edit(12, b"rGb3")], 5, 12),
-    Case(16, &[Edit(12, b"rgB3")], 5, 12),
-    Case(16, &[Edit(12, b"rgb4")], 5, 12),
-    Case(16, &[Edit(12, b"rgbA")], 5, 12),
-    Case(16, &[Edit(12, b"abgR")], 5, 12),
-    Case(16, &[Edit(12, b"bgr3")], 5, 12),
-    Case(16, &[Edit(12, &[255, 255, 255, 255])], 5, 12),
+    Case(16, &[Edit(12, &[0, 0, 0, 0])], Reserved, 12),
+    Case(16, &[Edit(12, b"Rgb3")], Reserved, 12),
+    Case(16, &[Edit(12, b"rGb3")], Reserved, 12),
+    Case(16, &[Edit(12, b"rgB3")], Reserved, 12),
+    Case(16, &[Edit(12, b"rgb4")], Reserved, 12),
+    Case(16, &[Edit(12, b"rgbA")], Reserved, 12),
+    Case(16, &[Edit(12, b"abgR")], Reserved, 12),
+    Case(16, &[Edit(12, b"bgr3")], Reserved, 12),
+    Case(16, &[Edit(12, &[255, 255, 255, 255])], Reserved, 12),
     // bytes left over
-    Case(17, &[], 1, 16),
-    Case(20, &[], 1, 16),
-    Case(59, &[], 1, 16),
+    Case(17, &[], Extent, 16),
+    Case(20, &[], Extent, 16),
+    Case(59, &[], Extent, 16),
     // a box of version 0, which goes on
-    Case(16, &[Edit(8, &[0])], 1, 16),
+    Case(16, &[Edit(8, &[0])], Extent, 16),
     // two things
-    Case(16, &[Edit(8, &[2]), Edit(12, b"bgr3")], 3, 8),
-    Case(16, &[Edit(9, &[1]), Edit(12, b"bgr3")], 3, 9),
-    Case(15, &[Edit(8, &[2])], 3, 8),
-    Case(15, &[Edit(9, &[1])], 3, 9),
-    Case(17, &[Edit(9, &[1])], 3, 9),
-    Case(17, &[Edit(12, b"bgr3")], 5, 12),
+    Case(16, &[Edit(8, &[2]), Edit(12, b"bgr3")], Version, 8),
+    Case(16, &[Edit(9, &[1]), Edit(12, b"bgr3")], Version, 9),
+    Case(15, &[Edit(8, &[2])], Version, 8),
+    Case(15, &[Edit(9, &[1])], Version, 9),
+    Case(17, &[Edit(9, &[1])], Version, 9),
+    Case(17, &[Edit(12, b"bgr3")], Reserved, 12),
 ];
 
 // Bytes of `DENSE`, by their offsets, with the highest value that each may hold.
@@ -186,247 +188,313 @@ const BYTES: [(usize, u8); 18] = [
     (58, 255),
 ];
 
-// The flags in the order of their bits, the highest first.
-const FLAGS: [(u8, [bool; 5]); 8] = [
-    (0x00, [false, false, false, false, false]),
-    (0x80, [true, false, false, false, false]),
-    (0x40, [false, true, false, false, false]),
-    (0x20, [false, false, true, false, false]),
-    (0x10, [false, false, false, true, false]),
-    (0x08, [false, false, false, false, true]),
-    (0xa8, [true, false, true, false, true]),
-    (0xf8, [true, true, true, true, true]),
+// The flags by the bits of their byte.
+const FLAGS: [(u8, Flags); 8] = [
+    (0x00, Flags::NONE),
+    (
+        0x80,
+        Flags {
+            components_little_endian: true,
+            ..Flags::NONE
+        },
+    ),
+    (
+        0x40,
+        Flags {
+            pad_low: true,
+            ..Flags::NONE
+        },
+    ),
+    (
+        0x20,
+        Flags {
+            block_little_endian: true,
+            ..Flags::NONE
+        },
+    ),
+    (
+        0x10,
+        Flags {
+            block_reversed: true,
+            ..Flags::NONE
+        },
+    ),
+    (
+        0x08,
+        Flags {
+            pad_unknown: true,
+            ..Flags::NONE
+        },
+    ),
+    (
+        0xa8,
+        Flags {
+            components_little_endian: true,
+            block_little_endian: true,
+            pad_unknown: true,
+            ..Flags::NONE
+        },
+    ),
+    (
+        0xf8,
+        Flags {
+            components_little_endian: true,
+            pad_low: true,
+            block_little_endian: true,
+            block_reversed: true,
+            pad_unknown: true,
+        },
+    ),
 ];
 
-// A list as it is to be read. The numbers of an entry are its index, depth, format and align size.
+// The index, the depth, the format and the align size of an entry.
+type Listed = (u16, u16, Format, u8);
+
+// A list as it is to be read.
 struct Known {
     bytes: &'static [u8],
-    version: u8,
+    is_brief: bool,
     profile: u32,
-    entries: &'static [[u16; 4]],
-    // Sampling, interleave and block size.
-    packing: [u8; 3],
-    flags: [bool; 5],
-    sizes: [u32; 5],
+    entries: &'static [Listed],
+    sampling: Sampling,
+    interleave: Interleave,
+    block: u8,
+    flags: Flags,
+    sizes: Sizes,
 }
+
+const NO_SIZES: Sizes = Sizes {
+    pixel_size: 0,
+    row_align: 0,
+    tile_align: 0,
+    tile_columns_less_one: 0,
+    tile_rows_less_one: 0,
+};
 
 const KNOWN: [Known; 6] = [
     Known {
         bytes: HEAT_STORED,
-        version: 0,
+        is_brief: false,
         profile: 0,
-        entries: &[[0, 12, 0, 2], [1, 32, 1, 4]],
-        packing: [0, 0, 0],
-        flags: [true, false, false, false, false],
-        sizes: [0, 64, 0, 1, 0],
+        entries: &[(0, 12, Integer, 2), (1, 32, Float, 4)],
+        sampling: Sampling::Full,
+        interleave: Interleave::Component,
+        block: 0,
+        flags: Flags {
+            components_little_endian: true,
+            ..Flags::NONE
+        },
+        sizes: Sizes {
+            pixel_size: 0,
+            row_align: 64,
+            tile_align: 0,
+            tile_columns_less_one: 1,
+            tile_rows_less_one: 0,
+        },
     },
     Known {
         bytes: DENSE,
-        version: 0,
+        is_brief: false,
         profile: 0xa1b2_c3d4,
-        entries: &[[0x0102, 256, 0, 0], [0xffff, 1, 1, 255], [0, 10, 2, 8]],
-        packing: [3, 5, 0x21],
-        flags: [true, false, true, false, true],
-        sizes: [
-            0x0102_0304,
-            0x1112_1314,
-            0x2122_2324,
-            0xffff_ffff,
-            0x8000_0001,
+        entries: &[
+            (0x0102, 256, Integer, 0),
+            (0xffff, 1, Float, 255),
+            (0, 10, Complex, 8),
         ],
+        sampling: Sampling::Yuv411,
+        interleave: Interleave::MultiY,
+        block: 0x21,
+        flags: Flags {
+            components_little_endian: true,
+            block_little_endian: true,
+            pad_unknown: true,
+            ..Flags::NONE
+        },
+        sizes: Sizes {
+            pixel_size: 0x0102_0304,
+            row_align: 0x1112_1314,
+            tile_align: 0x2122_2324,
+            tile_columns_less_one: 0xffff_ffff,
+            tile_rows_less_one: 0x8000_0001,
+        },
     },
     Known {
         bytes: RGB3_LISTED,
-        version: 0,
+        is_brief: false,
         profile: 0x7267_6233,
-        entries: &[[0, 8, 0, 0], [1, 8, 0, 0], [2, 8, 0, 0]],
-        packing: [0, 1, 0],
-        flags: [false; 5],
-        sizes: [0; 5],
+        entries: &[(0, 8, Integer, 0), (1, 8, Integer, 0), (2, 8, Integer, 0)],
+        sampling: Sampling::Full,
+        interleave: Interleave::Pixel,
+        block: 0,
+        flags: Flags::NONE,
+        sizes: NO_SIZES,
     },
     Known {
         bytes: RGB3,
-        version: 1,
+        is_brief: true,
         profile: 0x7267_6233,
-        entries: &[[0, 8, 0, 0], [1, 8, 0, 0], [2, 8, 0, 0]],
-        packing: [0, 1, 0],
-        flags: [false; 5],
-        sizes: [0; 5],
+        entries: &[(0, 8, Integer, 0), (1, 8, Integer, 0), (2, 8, Integer, 0)],
+        sampling: Sampling::Full,
+        interleave: Interleave::Pixel,
+        block: 0,
+        flags: Flags::NONE,
+        sizes: NO_SIZES,
     },
     Known {
         bytes: RGBA,
-        version: 1,
+        is_brief: true,
         profile: 0x7267_6261,
-        entries: &[[0, 8, 0, 0], [1, 8, 0, 0], [2, 8, 0, 0], [3, 8, 0, 0]],
-        packing: [0, 1, 0],
-        flags: [false; 5],
-        sizes: [0; 5],
+        entries: &[
+            (0, 8, Integer, 0),
+            (1, 8, Integer, 0),
+            (2, 8, Integer, 0),
+            (3, 8, Integer, 0),
+        ],
+        sampling: Sampling::Full,
+        interleave: Interleave::Pixel,
+        block: 0,
+        flags: Flags::NONE,
+        sizes: NO_SIZES,
     },
     Known {
         bytes: ABGR,
-        version: 1,
+        is_brief: true,
         profile: 0x6162_6772,
-        entries: &[[3, 8, 0, 0], [2, 8, 0, 0], [1, 8, 0, 0], [0, 8, 0, 0]],
-        packing: [0, 1, 0],
-        flags: [false; 5],
-        sizes: [0; 5],
+        entries: &[
+            (3, 8, Integer, 0),
+            (2, 8, Integer, 0),
+            (1, 8, Integer, 0),
+            (0, 8, Integer, 0),
+        ],
+        sampling: Sampling::Full,
+        interleave: Interleave::Pixel,
+        block: 0,
+        flags: Flags::NONE,
+        sizes: NO_SIZES,
     },
 ];
 
-fn format_number(format: Format) -> u8 {
-    match format {
-        Format::Integer => 0,
-        Format::Float => 1,
-        Format::Complex => 2,
-    }
-}
-
-fn sampling_number(sampling: Sampling) -> u8 {
-    match sampling {
-        Sampling::Full => 0,
-        Sampling::Yuv422 => 1,
-        Sampling::Yuv420 => 2,
-        Sampling::Yuv411 => 3,
-    }
-}
-
-fn interleave_number(interleave: Interleave) -> u8 {
-    match interleave {
-        Interleave::Component => 0,
-        Interleave::Pixel => 1,
-        Interleave::Mixed => 2,
-        Interleave::Row => 3,
-        Interleave::TileComponent => 4,
-        Interleave::MultiY => 5,
-    }
-}
-
-fn version(configuration: &Configuration) -> u8 {
-    match configuration {
-        Configuration::Listed(_) => 0,
-        Configuration::Brief(_) => 1,
-    }
-}
-
-fn entry_numbers(entry: &Entry) -> [u16; 4] {
-    [
-        entry.index,
-        entry.depth(),
-        u16::from(format_number(entry.format)),
-        u16::from(entry.align),
-    ]
-}
-
-fn packing_numbers(listing: &Listing) -> [u8; 3] {
-    let packing = listing.packing;
-    [
-        sampling_number(packing.sampling),
-        interleave_number(packing.interleave),
-        packing.block,
-    ]
-}
-
-fn flag_bits(flags: Flags) -> [bool; 5] {
-    [
-        flags.components_little_endian,
-        flags.pad_low,
-        flags.block_little_endian,
-        flags.block_reversed,
-        flags.pad_unknown,
-    ]
-}
-
-fn size_numbers(sizes: Sizes) -> [u32; 5] {
-    [
-        sizes.pixel_size,
-        sizes.row_align,
-        sizes.tile_align,
-        sizes.tile_columns_less_one,
-        sizes.tile_rows_less_one,
-    ]
+fn listed(entry: &Entry) -> Listed {
+    (entry.index, entry.depth(), entry.format, entry.align)
 }
 
 fn is_known(rt: &impl Abort, known: &Known) -> Result<(), Fail> {
     let configuration = Configuration::read(known.bytes)?;
     assert_eq!(rt; configuration.size(), known.bytes.len());
-    assert_eq!(rt; version(&configuration), known.version);
+    assert_eq!(rt;
+        matches!(&configuration, Configuration::Brief(_)),
+        known.is_brief
+    );
     let listing = configuration.listing();
     assert_eq!(rt; listing.profile, known.profile);
-    assert_eq!(rt; packing_numbers(&listing), known.packing);
-    assert_eq!(rt; flag_bits(listing.packing.flags), known.flags);
-    assert_eq!(rt; size_numbers(listing.sizes), known.sizes);
+    assert_eq!(rt; listing.packing.sampling, known.sampling);
+    assert_eq!(rt; listing.packing.interleave, known.interleave);
+    assert_eq!(rt; listing.packing.block, known.block);
+    assert_eq!(rt; listing.packing.flags, known.flags);
+    has_sizes(rt, listing.sizes, known.sizes);
     assert_eq!(rt; listing.entries().len(), known.entries.len());
     for (entry, expected) in listing.entries().iter().zip(known.entries) {
-        assert_eq!(rt; entry_numbers(entry), *expected);
+        assert_eq!(rt; listed(entry), *expected);
         assert_eq!(rt; entry.depth(), u16::from(entry.depth_less_one) + 1);
     }
     Ok(())
 }
 
+fn has_sizes(rt: &impl Abort, sizes: Sizes, known: Sizes) {
+    assert_eq!(rt; sizes.pixel_size, known.pixel_size);
+    assert_eq!(rt; sizes.row_align, known.row_align);
+    assert_eq!(rt; sizes.tile_align, known.tile_align);
+    assert_eq!(rt; sizes.tile_columns_less_one, known.tile_columns_less_one);
+    assert_eq!(rt; sizes.tile_rows_less_one, known.tile_rows_less_one);
+}
+
 #[test]
-fn cut_at_each_length(rt: HostRuntime) {
+fn cut_at_each_length(rt: HostRuntime) -> Result<(), Fail> {
     for whole in &WHOLE {
-        Kind::Configuration.refuses_cuts(&rt, whole);
+        Kind::Configuration.refuses_cuts(&rt, whole)?;
     }
+    Ok(())
 }
 
 #[test]
-fn wrong_fields(rt: HostRuntime) {
-    Kind::Configuration.refuses_all(&rt, DENSE, &WRONG);
-    Kind::Configuration.refuses_all(&rt, DENSE, &WRONG_TWICE);
-    Kind::Configuration.refuses_all(&rt, RGB3, &WRONG_BRIEF);
+fn wrong_fields(rt: HostRuntime) -> Result<(), Fail> {
+    Kind::Configuration.refuses_all(&rt, DENSE, &WRONG)?;
+    Kind::Configuration.refuses_all(&rt, DENSE, &WRONG_TWICE)?;
+    Kind::Configuration.refuses_all(&rt, RGB3, &WRONG_BRIEF)?;
+    Ok(())
 }
 
 #[test]
-fn every_value_of_a_byte(rt: HostRuntime) {
+fn every_value_of_a_byte(rt: HostRuntime) -> Result<(), Fail> {
     for (at, last) in BYTES {
+        let mut draft = Draft::of(rt.alloc(), DENSE)?;
         for byte in 0..=255u8 {
-            let mut draft = Draft::of(DENSE);
             draft.put(at, &[byte]);
             let tried = format_args!("{byte} at {at}");
             if byte > last {
-                Kind::Configuration.refuses(&rt, draft.bytes(), 5, at as u64, &tried);
+                Kind::Configuration.refuses(&rt, draft.bytes(), Reserved, at as u64, &tried);
             } else {
                 Kind::Configuration.accepts(&rt, draft.bytes(), &tried);
             }
         }
     }
+    Ok(())
 }
 
 #[test]
-fn every_flags_byte(rt: HostRuntime) {
+fn every_flags_byte(rt: HostRuntime) -> Result<(), Fail> {
+    let mut draft = Draft::of(rt.alloc(), DENSE)?;
     for byte in 0..=255u8 {
-        let mut draft = Draft::of(DENSE);
         draft.put(38, &[byte]);
         let tried = format_args!("flags {byte}");
         if byte % 8 == 0 {
             Kind::Configuration.accepts(&rt, draft.bytes(), &tried);
         } else {
-            Kind::Configuration.refuses(&rt, draft.bytes(), 5, 38, &tried);
+            Kind::Configuration.refuses(&rt, draft.bytes(), Reserved, 38, &tried);
         }
     }
+    Ok(())
 }
 
 #[test]
-fn every_version_above_1(rt: HostRuntime) {
-    let mut listed = Draft::of(DENSE);
-    let mut brief = Draft::of(RGB3);
+fn every_version_above_1(rt: HostRuntime) -> Result<(), Fail> {
+    let mut listed = Draft::of(rt.alloc(), DENSE)?;
+    let mut brief = Draft::of(rt.alloc(), RGB3)?;
     for version in 2..=255u8 {
         listed.put(8, &[version]);
         brief.put(8, &[version]);
-        Kind::Configuration.refuses(&rt, listed.bytes(), 3, 8, &"listed");
-        Kind::Configuration.refuses(&rt, brief.bytes(), 3, 8, &"brief");
+        Kind::Configuration.refuses(&rt, listed.bytes(), Version, 8, &"listed");
+        Kind::Configuration.refuses(&rt, brief.bytes(), Version, 8, &"brief");
     }
+    Ok(())
 }
+
+const SAMPLINGS: [Sampling; 4] = [
+    Sampling::Full,
+    Sampling::Yuv422,
+    Sampling::Yuv420,
+    Sampling::Yuv411,
+];
+
+const INTERLEAVES: [Interleave; 6] = [
+    Interleave::Component,
+    Interleave::Pixel,
+    Interleave::Mixed,
+    Interleave::Row,
+    Interleave::TileComponent,
+    Interleave::MultiY,
+];
 
 #[test]
 fn every_sampling_and_interleave(rt: HostRuntime) -> Result<(), Fail> {
-    let mut draft = Draft::of(DENSE);
-    for sampling in 0..4u8 {
-        for interleave in 0..6u8 {
-            draft.put(35, &[sampling, interleave]);
-            let listing = Configuration::read(draft.bytes())?.listing();
-            assert_eq!(rt; packing_numbers(&listing), [sampling, interleave, 0x21]);
+    let mut draft = Draft::of(rt.alloc(), DENSE)?;
+    for (across, sampling) in (0..4u8).zip(SAMPLINGS) {
+        for (order, interleave) in (0..6u8).zip(INTERLEAVES) {
+            draft.put(35, &[across, order]);
+            let packing = Configuration::read(draft.bytes())?.listing().packing;
+            assert_eq!(rt; packing.sampling, sampling);
+            assert_eq!(rt; packing.interleave, interleave);
+            assert_eq!(rt; packing.block, 0x21);
         }
     }
     Ok(())
@@ -435,10 +503,10 @@ fn every_sampling_and_interleave(rt: HostRuntime) -> Result<(), Fail> {
 #[test]
 fn flags_one_by_one(rt: HostRuntime) -> Result<(), Fail> {
     for (byte, expected) in FLAGS {
-        let mut draft = Draft::of(DENSE);
+        let mut draft = Draft::of(rt.alloc(), DENSE)?;
         draft.put(38, &[byte]);
         let listing = Configuration::read(draft.bytes())?.listing();
-        assert_eq!(rt; flag_bits(listing.packing.flags), expected);
+        assert_eq!(rt; listing.packing.flags, expected);
     }
     Ok(())
 }
@@ -454,17 +522,18 @@ fn lists(rt: HostRuntime) -> Result<(), Fail> {
 // One to sixteen entries, each with an index of its own.
 #[test]
 fn every_count(rt: HostRuntime) -> Result<(), Fail> {
-    let mut draft = Draft::of(b"\0\0\0\0uncC\0\0\0\0\0\0\0\0\0\0\0\0");
-    for count in 1..17u8 {
-        draft.push(&[count, 0, 255, 2, 255]);
-        let mut whole = draft;
+    let heap = rt.alloc();
+    let mut draft = Draft::of(heap, b"\0\0\0\0uncC\0\0\0\0\0\0\0\0\0\0\0\0")?;
+    for count in 1..=16u8 {
+        draft.push(&[count, 0, 255, 2, 255])?;
+        let mut whole = Draft::of(heap, draft.bytes())?;
         whole.put(19, &[count]);
-        whole.push(&[0; 24]);
+        whole.push(&[0; 24])?;
         whole.seal();
         let listing = Configuration::read(whole.bytes())?.listing();
         assert_eq!(rt; listing.entries().len(), usize::from(count));
         let last = listing.entries().last().ok_or("no entry")?;
-        assert_eq!(rt; entry_numbers(last), [256 * u16::from(count), 256, 2, 255]);
+        assert_eq!(rt; listed(last), (256 * u16::from(count), 256, Complex, 255));
     }
     Ok(())
 }

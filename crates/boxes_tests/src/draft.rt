@@ -1,53 +1,45 @@
-// A box made by hand.
+// A box made by hand. Each is shorter than 256 bytes, so that the last byte of a size holds it.
+use std::alloc::{AllocError, Global};
 
-// More than the longest box of these tests, and less than 256, so that the last byte of a size holds it.
-pub(crate) const ROOM: usize = 160;
-
-#[derive(Clone, Copy)]
+#[derive(Drop)]
 pub(crate) struct Draft {
-    bytes: [u8; ROOM],
-    len: usize,
+    bytes: Vec<u8>,
 }
 
 impl Draft {
-    pub(crate) fn of(bytes: &[u8]) -> Draft {
+    pub(crate) fn of(heap: Global, bytes: &[u8]) -> Result<Draft, AllocError> {
         let mut draft = Draft {
-            bytes: [0; ROOM],
-            len: 0,
+            bytes: Vec::new(heap),
         };
-        draft.push(bytes);
-        draft
+        draft.push(bytes)?;
+        Ok(draft)
     }
 
-    pub(crate) fn push(&mut self, bytes: &[u8]) {
-        let at = self.len;
-        self.put(at, bytes);
-        self.len = at.saturating_add(bytes.len()).min(ROOM);
+    pub(crate) fn push(&mut self, bytes: &[u8]) -> Result<(), AllocError> {
+        self.bytes.extend_from_slice(bytes)
     }
 
     // Writes over what stands from an offset on.
     pub(crate) fn put(&mut self, at: usize, bytes: &[u8]) {
-        let mut at = at;
-        for byte in bytes {
-            if at < ROOM {
-                self.bytes[at] = *byte;
-                at += 1;
-            }
+        for (old, new) in self.bytes.iter_mut().skip(at).zip(bytes) {
+            *old = *new;
         }
     }
 
     // Cuts the box, or lets it go on with zero bytes, and has its size say so.
-    pub(crate) fn resize(&mut self, len: usize) {
-        self.len = len.min(ROOM);
+    pub(crate) fn resize(&mut self, len: usize) -> Result<(), AllocError> {
+        self.bytes.resize(len, 0)?;
         self.seal();
+        Ok(())
     }
 
     // Has the size say how long the box is.
     pub(crate) fn seal(&mut self) {
-        self.put(0, &[0, 0, 0, (self.len % 256) as u8]);
+        let size = (self.bytes.len() % 256) as u8;
+        self.put(0, &[0, 0, 0, size]);
     }
 
     pub(crate) fn bytes(&self) -> &[u8] {
-        &self.bytes[0..self.len.min(ROOM)]
+        &self.bytes
     }
 }

@@ -1,7 +1,7 @@
 // Both boxes, read together.
-use crate::refusal::{Refusal, refusal_of};
 use crate::samples::{ABGR, DENSE, HEAT, HEAT_STORED, OWN, RGB, RGB3, RGBA};
 use boxes::Boxes;
+use fault::{Fault, Layer, Reason};
 use std::test::*;
 
 // A byte is left over, which is the last thing that is looked at.
@@ -14,43 +14,43 @@ const WRONG_SIZE: &[u8] = b"\0\0\0\x0funcC\x01\0\0\0rgb3";
 struct Refused {
     definition: Option<&'static [u8]>,
     configuration: &'static [u8],
-    refusal: Refusal,
+    refusal: Fault,
 }
 
 const REFUSED: [Refused; 6] = [
     Refused {
         definition: Some(LONG_DEFINITION),
         configuration: WRONG_SIZE,
-        refusal: Refusal {
-            number: 1,
-            letter: 'd',
+        refusal: Fault {
+            reason: Reason::Extent,
+            layer: Layer::DefinitionBox,
             place: 14,
         },
     },
     Refused {
         definition: Some(LONG_DEFINITION),
         configuration: RGB3,
-        refusal: Refusal {
-            number: 1,
-            letter: 'd',
+        refusal: Fault {
+            reason: Reason::Extent,
+            layer: Layer::DefinitionBox,
             place: 14,
         },
     },
     Refused {
         definition: Some(RGB),
         configuration: WRONG_SIZE,
-        refusal: Refusal {
-            number: 1,
-            letter: 'u',
+        refusal: Fault {
+            reason: Reason::Extent,
+            layer: Layer::ConfigurationBox,
             place: 0,
         },
     },
     Refused {
         definition: None,
         configuration: WRONG_SIZE,
-        refusal: Refusal {
-            number: 1,
-            letter: 'u',
+        refusal: Fault {
+            reason: Reason::Extent,
+            layer: Layer::ConfigurationBox,
             place: 0,
         },
     },
@@ -58,9 +58,9 @@ const REFUSED: [Refused; 6] = [
     Refused {
         definition: Some(&[]),
         configuration: RGB3,
-        refusal: Refusal {
-            number: 1,
-            letter: 'd',
+        refusal: Fault {
+            reason: Reason::Extent,
+            layer: Layer::DefinitionBox,
             place: 0,
         },
     },
@@ -68,9 +68,9 @@ const REFUSED: [Refused; 6] = [
     Refused {
         definition: Some(RGB3),
         configuration: RGB,
-        refusal: Refusal {
-            number: 2,
-            letter: 'd',
+        refusal: Fault {
+            reason: Reason::BoxType,
+            layer: Layer::DefinitionBox,
             place: 4,
         },
     },
@@ -136,7 +136,7 @@ const TYPED: [Typed; 9] = [
 fn definition_is_answered_first(rt: HostRuntime) -> Result<(), Fail> {
     for pair in &REFUSED {
         let answer = Boxes::read(pair.definition, pair.configuration);
-        assert_eq!(rt; refusal_of(answer), Some(pair.refusal));
+        assert_eq!(rt; answer.err(), Some(pair.refusal));
     }
     Ok(())
 }

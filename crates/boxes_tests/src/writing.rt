@@ -1,11 +1,13 @@
 // Boxes, written back.
-use crate::draft::{Draft, ROOM};
-use crate::refusal::{Refusal, refusal_of};
+use crate::draft::Draft;
 use crate::samples::{ABGR, DENSE, HEAT, HEAT_STORED, OWN, RGB, RGB3, RGB3_LISTED, RGBA};
 use boxes::{Boxes, Configuration, Definition};
-use fault::Fault;
+use fault::{Fault, Layer, Reason};
 use std::process::Abort;
 use std::test::*;
+
+// More than the longest box of these tests.
+const ROOM: usize = 160;
 
 // What every byte of a buffer holds before a box is written to it.
 const OLD: u8 = 0xee;
@@ -46,13 +48,13 @@ const PAIRS: [Pair; 4] = [
 
 // A box that was read.
 trait Writable {
-    const LETTER: char;
+    const LAYER: Layer;
 
     fn write_to(&self, out: &mut [u8]) -> Result<usize, Fault>;
 }
 
 impl Writable for Definition<'_> {
-    const LETTER: char = 'd';
+    const LAYER: Layer = Layer::DefinitionBox;
 
     fn write_to(&self, out: &mut [u8]) -> Result<usize, Fault> {
         self.write(out)
@@ -60,7 +62,7 @@ impl Writable for Definition<'_> {
 }
 
 impl Writable for Configuration {
-    const LETTER: char = 'u';
+    const LAYER: Layer = Layer::ConfigurationBox;
 
     fn write_to(&self, out: &mut [u8]) -> Result<usize, Fault> {
         self.write(out)
@@ -69,7 +71,7 @@ impl Writable for Configuration {
 
 // The definition box of a pair.
 impl Writable for Boxes<'_> {
-    const LETTER: char = 'd';
+    const LAYER: Layer = Layer::DefinitionBox;
 
     fn write_to(&self, out: &mut [u8]) -> Result<usize, Fault> {
         self.write_definition(out)
@@ -94,7 +96,7 @@ fn written<B: Writable>(of: &B, len: usize) -> (Result<usize, Fault>, [u8; ROOM]
 
 // Wherever the box has room it comes back, and nothing else changes.
 fn comes_back<B: Writable>(rt: &impl Abort, of: &B, bytes: &[u8]) -> Result<(), Fail> {
-    for len in bytes.len()..ROOM + 1 {
+    for len in bytes.len()..=ROOM {
         let (answer, out) = written(of, len);
         assert_eq!(rt; answer?, bytes.len());
         assert_eq!(rt; out, buffer(bytes), "room for {len}");
@@ -104,14 +106,10 @@ fn comes_back<B: Writable>(rt: &impl Abort, of: &B, bytes: &[u8]) -> Result<(), 
 
 // Wherever it has none it is refused, and nothing changes.
 fn wants_room<B: Writable>(rt: &impl Abort, of: &B, size: usize) -> Result<(), Fail> {
-    let expected = Refusal {
-        number: 27,
-        letter: B::LETTER,
-        place: 0,
-    };
+    let expected = B::LAYER.refuses(Reason::Room, 0);
     for len in 0..size {
         let (answer, out) = written(of, len);
-        assert_eq!(rt; refusal_of(answer), Some(expected), "room for {len}");
+        assert_eq!(rt; answer, Err(expected), "room for {len}");
         assert_eq!(rt; out, buffer(&[]), "room for {len}");
     }
     Ok(())
@@ -151,13 +149,14 @@ fn pairs(rt: HostRuntime) -> Result<(), Fail> {
 // The longest lists: sixteen components, each with a URI, and sixteen entries.
 #[test]
 fn sixteen(rt: HostRuntime) -> Result<(), Fail> {
-    let mut definition = Draft::of(b"\0\0\0\0cmpd\0\0\0\x10");
-    let mut configuration = Draft::of(b"\0\0\0\0uncC\0\0\0\0prof\0\0\0\x10");
+    let heap = rt.alloc();
+    let mut definition = Draft::of(heap, b"\0\0\0\0cmpd\0\0\0\x10")?;
+    let mut configuration = Draft::of(heap, b"\0\0\0\0uncC\0\0\0\0prof\0\0\0\x10")?;
     for i in 0..16u8 {
-        definition.push(&[0x80 + i, 255 - i, 255 - i, 0]);
-        configuration.push(&[i, 255 - i, 16 * i, i % 3, i]);
+        definition.push(&[0x80 + i, 255 - i, 255 - i, 0])?;
+        configuration.push(&[i, 255 - i, 16 * i, i % 3, i])?;
     }
-    configuration.push(b"\x01\x02\x03\x50pixlrow-tilecolsrows");
+    configuration.push(b"\x01\x02\x03\x50pixlrow-tilecolsrows")?;
     definition.seal();
     configuration.seal();
     comes_back(
