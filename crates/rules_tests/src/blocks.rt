@@ -2,7 +2,6 @@
 use crate::answer::{refusal_of_all, refused};
 use boxes::Format::Integer;
 use fault::Reason::{self, Blocks};
-use std::alloc::Global;
 use std::process::Abort;
 use std::test::*;
 use test_boxes::{Draft, Entry, Flag, PLAIN, RGB};
@@ -124,7 +123,7 @@ const ALIGNED: [Case; 12] = [
     Case(8, 2, 9, Flag::COMPONENTS_LITTLE_ENDIAN, Some(Blocks)),
 ];
 
-fn all(rt: &impl Abort, heap: Global, first: Entry, cases: &[Case]) -> Result<(), Fail> {
+fn all(rt: &(impl Abort + AllocGlobal), first: Entry, cases: &[Case]) -> Result<(), Fail> {
     for (i, &Case(depth, align, block, flags, broken)) in cases.iter().enumerate() {
         let draft = Draft {
             types: RGB,
@@ -134,13 +133,13 @@ fn all(rt: &impl Abort, heap: Global, first: Entry, cases: &[Case]) -> Result<()
             ..PLAIN
         };
         let expected = broken.map(refusal_of_all);
-        assert_eq!(rt; refused(heap, &draft)?, expected, "case {i}");
+        assert_eq!(rt; refused(rt.alloc(), &draft)?, expected, "case {i}");
     }
     Ok(())
 }
 
 #[test]
 fn blocks_and_byte_orders(rt: HostRuntime) -> Result<(), Fail> {
-    all(&rt, rt.alloc(), Entry(0, 1, Integer, 0), &PACKED)?;
-    all(&rt, rt.alloc(), Entry(0, 1, Integer, 1), &ALIGNED)
+    all(&rt, Entry(0, 1, Integer, 0), &PACKED)?;
+    all(&rt, Entry(0, 1, Integer, 1), &ALIGNED)
 }

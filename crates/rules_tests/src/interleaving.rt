@@ -4,7 +4,6 @@ use boxes::Format::{Float, Integer};
 use boxes::Interleave::{self, Component, Mixed, MultiY, Pixel, Row, TileComponent};
 use boxes::Sampling::{self, Full, Yuv411, Yuv420, Yuv422};
 use fault::Reason::{self, Interleaving};
-use std::alloc::Global;
 use std::process::Abort;
 use std::test::*;
 use test_boxes::{Draft, Entry, OCTETS, PLAIN, RGB, YUV};
@@ -178,7 +177,7 @@ const LISTS: [Case; 46] = [
     ),
 ];
 
-fn all(rt: &impl Abort, heap: Global, cases: &[Case]) -> Result<(), Fail> {
+fn all(rt: &(impl Abort + AllocGlobal), cases: &[Case]) -> Result<(), Fail> {
     for (i, &Case(types, sampling, interleave, entries, broken)) in cases.iter().enumerate() {
         let draft = Draft {
             types,
@@ -190,13 +189,13 @@ fn all(rt: &impl Abort, heap: Global, cases: &[Case]) -> Result<(), Fail> {
             ..PLAIN
         };
         let expected = broken.map(refusal_of_all);
-        assert_eq!(rt; refused(heap, &draft)?, expected, "case {i}");
+        assert_eq!(rt; refused(rt.alloc(), &draft)?, expected, "case {i}");
     }
     Ok(())
 }
 
 #[test]
 fn interleave_goes_with_sampling_and_list(rt: HostRuntime) -> Result<(), Fail> {
-    all(&rt, rt.alloc(), &PAIRS)?;
-    all(&rt, rt.alloc(), &LISTS)
+    all(&rt, &PAIRS)?;
+    all(&rt, &LISTS)
 }

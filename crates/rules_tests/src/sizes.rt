@@ -3,7 +3,6 @@ use crate::answer::{refusal_of_all, refused};
 use boxes::Format::Integer;
 use boxes::Interleave::{self, Component, Pixel, Row, TileComponent};
 use fault::Reason::{self, Alignment};
-use std::alloc::Global;
 use std::process::Abort;
 use std::test::*;
 use test_boxes::{Draft, Entry, OCTETS, PLAIN, RGB};
@@ -84,7 +83,7 @@ const LEAST: [Least; 16] = [
 ];
 
 // The least pixel size is kept, and one block less, or one byte, is not.
-fn keeps_least(rt: &impl Abort, heap: Global, i: usize, least: &Least) -> Result<(), Fail> {
+fn keeps_least(rt: &(impl Abort + AllocGlobal), i: usize, least: &Least) -> Result<(), Fail> {
     let &Least([d0, d1, d2], [a0, a1, a2], block, pixel_size) = least;
     let kept = Draft {
         types: RGB,
@@ -102,9 +101,9 @@ fn keeps_least(rt: &impl Abort, heap: Global, i: usize, least: &Least) -> Result
         pixel_size: pixel_size.saturating_sub(u32::from(block).max(1)),
         ..kept
     };
-    assert_eq!(rt; refused(heap, &kept)?, None, "least {i}");
+    assert_eq!(rt; refused(rt.alloc(), &kept)?, None, "least {i}");
     assert_eq!(rt;
-        refused(heap, &fewer)?,
+        refused(rt.alloc(), &fewer)?,
         Some(refusal_of_all(Alignment)),
         "least {i}"
     );
@@ -131,7 +130,7 @@ fn pixel_sizes_and_aligns(rt: HostRuntime) -> Result<(), Fail> {
         assert_eq!(rt; refused(rt.alloc(), &draft)?, expected, "case {i}");
     }
     for (i, least) in LEAST.iter().enumerate() {
-        keeps_least(&rt, rt.alloc(), i, least)?;
+        keeps_least(&rt, i, least)?;
     }
     Ok(())
 }
