@@ -23,9 +23,13 @@ pub struct Flag;
 
 impl Flag {
     pub const COMPONENTS_LITTLE_ENDIAN: u8 = 0x80;
+
     pub const PAD_LOW: u8 = 0x40;
+
     pub const BLOCK_LITTLE_ENDIAN: u8 = 0x20;
+
     pub const BLOCK_REVERSED: u8 = 0x10;
+
     pub const PAD_UNKNOWN: u8 = 0x08;
 }
 
