@@ -13,6 +13,7 @@ impl Add for Bits {
     type Output = Bits;
 
     ghost can_add = { λ a b. a.0 + b.0 < 2 ^ 64 };
+
     ghost add_gives = { λ a b sum. sum.0 ≡ a.0 + b.0 };
 
     fn add(self, more: Bits) -> Bits {
@@ -24,6 +25,7 @@ impl Add for Bytes {
     type Output = Bytes;
 
     ghost can_add = { λ a b. a.0 + b.0 < 2 ^ 64 };
+
     ghost add_gives = { λ a b sum. sum.0 ≡ a.0 + b.0 };
 
     fn add(self, more: Bytes) -> Bytes {
