@@ -98,6 +98,7 @@ impl<'a> Definition<'a> {
     pub fn size(&self) -> usize
         ensures is { result ≡ length (definition_bytes (defines self.now)) }
     {
+        // No `map` and `sum`: that 12 more fit is then a goal that no short answer closes.
         let mut size = 12;
         for component in self.components() {
             size += component.size(self.text);

@@ -11,6 +11,7 @@ pub fn put(out: &mut [u8], at: usize, bytes: &[u8])
     }
 }
 
+// Beside `put_word`, one line each: a generic one would need a trait of numbers.
 pub fn put_half(out: &mut [u8], at: usize, half: u16)
     ensures { out.new ≡ put_at out.old at (half_bytes half) }
 {
