@@ -3,8 +3,10 @@ ghost use Rattle.std.specs.Prelude.{◌≡◌, IfOk};
 ghost use Rattle.std.specs.Option.{option_map};
 ghost use Rattle.fault.specs.declared.layer.Layer.TheVariants.{DefinitionBox};
 ghost use Rattle.boxes.specs.Pairs.{maybe_definition, definition_read, read_boxes, boxes_read, texts, maybe_bytes, type_of};
+ghost use Rattle.choices.specs.ComponentTypes.{type_numbered};
 ghost use Rattle.fields.specs.Put.{write_answer, written_to};
 
+use choices::ComponentType;
 use configuration::Configuration;
 use definition::Definition;
 use fault::Fault;
@@ -47,8 +49,8 @@ impl<'a> Boxes<'a> {
     }
 
     // The type of the component with this index, where it is defined: in version 1 by the profile.
-    pub fn component_type(&self, index: u16) -> Option<u16>
-        ensures { result ≡ type_of self.now index }
+    pub fn component_type(&self, index: u16) -> Option<ComponentType>
+        ensures { result ≡ option_map type_numbered (type_of self.now index) }
     {
         match &self.configuration {
             Configuration::Brief(profile) => profile.component_type(index),

@@ -5,6 +5,6 @@
 mod boxes;
 
 pub use boxes::Boxes;
-pub use choices::{Flags, Format, Interleave, Sampling};
+pub use choices::{ComponentType, Flags, Format, Interleave, Sampling};
 pub use configuration::{Configuration, Entry, Listing, Packing, Profile, Sizes};
 pub use definition::{Component, Definition, Span, Uri};

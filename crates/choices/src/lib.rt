@@ -3,9 +3,11 @@
 #![tactic(auto)]
 
 mod choice;
+mod component_type;
 mod flags;
 mod reserved;
 
 pub use choice::{Format, Interleave, Sampling};
+pub use component_type::ComponentType;
 pub use flags::Flags;
 pub use reserved::Reserved;

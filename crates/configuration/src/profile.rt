@@ -1,10 +1,12 @@
 // The words that stand for a whole configuration, in a box of version 1.
 ghost use Rattle.std.specs.Prelude.{◌≡◌, ◌≤◌, length, ok_or};
+ghost use Rattle.std.specs.Option.{option_map};
+ghost use Rattle.choices.specs.ComponentTypes.{type_numbered};
 ghost use Rattle.configuration.specs.Profiles.{profile_of, profile_word, profile_listing, profile_type, octet_of, plain_listing};
 
 use crate::entry::Entry;
 use crate::listing::{Listing, Packing, Sizes};
-use choices::{Flags, Format, Interleave, Sampling};
+use choices::{ComponentType, Flags, Format, Interleave, Sampling};
 use fields::Table;
 use std::error::Error;
 use std::fmt;
@@ -69,15 +71,19 @@ impl Profile {
     }
 
     // The type of a component that the word defines: R, G, B and, but for `rgb3`, alpha.
-    pub fn component_type(self, index: u16) -> Option<u16>
-        ensures { result ≡ profile_type self index }
+    pub fn component_type(self, index: u16) -> Option<ComponentType>
+        ensures { result ≡ option_map type_numbered (profile_type self index) }
     {
         let count = match self {
             Profile::Rgb3 => 3,
             Profile::Rgba => 4,
             Profile::Abgr => 4,
         };
-        if index < count { Some(4 + index) } else { None }
+        if index < count {
+            Some(ComponentType::from(4 + index))
+        } else {
+            None
+        }
     }
 }
 

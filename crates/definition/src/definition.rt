@@ -3,12 +3,14 @@ ghost use Rattle.std.specs.Prelude.{◌≡◌, ◌+◌, ◌≤◌, map, length, 
 ghost use Rattle.std.specs.List.{flat_map};
 ghost use Rattle.std.specs.Option.{option_map};
 ghost use Rattle.fault.specs.declared.layer.Layer.TheVariants.{DefinitionBox};
+ghost use Rattle.choices.specs.ComponentTypes.{type_numbered};
 ghost use Rattle.definition.specs.Definitions.{read_definition, components_read, defined, component_type, seen, uri_of};
 ghost use Rattle.definition.specs.Encoded.{described, described_bytes, definition_bytes, defines};
 ghost use Rattle.definition.specs.RoundTrip.{DefinitionExact, DefinitionBack};
 ghost use Rattle.fields.specs.Put.{placed, write_answer, written_to};
 
 use crate::component::Component;
+use choices::ComponentType;
 use fault::{Fault, Layer, Reason};
 use fields::{Reader, Table, Whole, put_header, put_word};
 
@@ -74,12 +76,12 @@ impl<'a> Definition<'a> {
     }
 
     // The type of a component, by its position, where it is defined.
-    pub fn component_type(&self, index: u16) -> Option<u16>
-        ensures { result ≡ component_type self.now.components index }
+    pub fn component_type(&self, index: u16) -> Option<ComponentType>
+        ensures { result ≡ option_map type_numbered (component_type self.now.components index) }
     {
         self.components()
             .get(usize::from(index))
-            .map(|component| component.number)
+            .map(|component| ComponentType::from(component.number))
     }
 
     // The URI of a component, by its position, where it has one.

@@ -3,6 +3,7 @@ use Rattle.std.proofs.Common.{ℕ, ◌*◌, ◌<◌, ◌≤◌, ◌≢◌, List,
 use Rattle.std.proofs.ByRecursion.{All-get_or, All-take, All-weaker}
 use Rattle.std.proofs.lemmas.List.{length-take}
 use Rattle.choices.specs.declared.choice.Format.{Format}
+use Rattle.choices.specs.declared.component_type.ComponentType.TheVariants.{Mono}
 use Rattle.plans.specs.Fit.{Small, Fitting, Narrow, Streams, Within, InBlocks}
 use Rattle.plans.specs.declared.entry.Entry.{Entry}
 use Rattle.plans.specs.declared.packing.Blocks.{Blocks}
@@ -13,7 +14,7 @@ abbrev pub none : Entry
 none =
     record {
       index = 0;
-      component_type = 0;
+      component_type = Mono;
       format = Format.Integer;
       depth = record { 0 = 0 };
       align = record { 0 = 0 };

@@ -191,7 +191,7 @@ fn are_listed(rt: &impl Abort, layout: &Layout, listed: &[Listed], note: &impl D
             expected;
         let note = format_args!("{note}: entry {i}");
         assert_eq!(rt; entry.index, index, "{note}");
-        assert_eq!(rt; entry.component_type, number, "{note}");
+        assert_eq!(rt; u16::from(entry.component_type), number, "{note}");
         assert_eq!(rt; entry.format, format, "{note}");
         assert_eq!(rt; entry.depth.0, u64::from(depth), "{note}");
         assert_eq!(rt; entry.align.0, u64::from(align), "{note}");

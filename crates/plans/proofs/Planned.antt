@@ -9,6 +9,7 @@ use Rattle.std.proofs.lemmas.Bool.Decides.{nat_tests}
 use Rattle.choices.specs.declared.choice.Interleave.{Interleave}
 use Rattle.choices.specs.declared.choice.Interleave.TheVariants.{Component, Pixel, Mixed, Row, TileComponent, MultiY}
 use Rattle.choices.specs.declared.choice.Sampling.{Sampling}
+use Rattle.choices.specs.declared.component_type.ComponentType.{ComponentType}
 use Rattle.choices.specs.declared.choice.Sampling.TheVariants.{Full}
 use Rattle.choices.specs.declared.flags.Flags.{Flags}
 use Rattle.configuration.specs.Entries.{blank}
@@ -198,8 +199,8 @@ module _ (types : Types) (s : Sampling) (block : ℕ) (f : Flags) (z : Sizes) (e
   alikes MultiY r zero l = alike_all (many_depth r)
   alikes MultiY r (suc g) l = absurd (omega arith)
 
-  full_rows : (t : Sampling) → goes_with t Row ≡ true → (number : ℕ) → rows_of t h number ≡ h
-  full_rows t q number = grind (arith, nat_tests, div-one h)
+  full_rows : (t : Sampling) → goes_with t Row ≡ true → (c : ComponentType) → rows_of t h c ≡ h
+  full_rows t q c = grind (arith, nat_tests, div-one h)
 
   row_even : Rules types s Row block z es w h → (g : ℕ) → g < length es
       → (get_or (map (alone (view Row)) (map entry es)) g no_strip).rows ≡ h / (z.tile_rows_less_one + 1)

@@ -13,6 +13,7 @@ use Rattle.choices.specs.declared.flags.Flags.{Flags}
 use Rattle.configuration.specs.Entries.{blank}
 use Rattle.configuration.specs.declared.entry.Entry.{Entry as Listed}
 use Rattle.configuration.specs.declared.listing.Sizes.{Sizes}
+use Rattle.choices.specs.ComponentTypes.{type_numbered}
 use Rattle.rules.specs.Entries.{Types, is_number, is_of, is_multi_y}
 use Rattle.rules.specs.Interleaving.{goes_with, same_of, one_index_of, yuv, is_yuv}
 use Rattle.rules.specs.Tiles.{divides, tiles_fit}
@@ -123,6 +124,10 @@ sides s z w h k =
 number : (o : Option ℕ) (k : ℕ) → is_number o k ≡ true → defined_as o ≡ k
 number None k e = grind (arith, nat_tests)
 number (Some n) k e = grind (arith, nat_tests)
+
+-- and the type that the table has for it
+type_kept : (o : Option ℕ) (k : ℕ) → is_number o k ≡ true → type_numbered (defined_as o) ≡ type_numbered k
+type_kept o k e = ap type_numbered (number o k e)
 
 module _ (types : Types) (s : Sampling) (block : ℕ) (f : Flags) (z : Sizes) (es : List Listed) (w h : ℕ) where
   abbrev at : ℕ → Listed
@@ -258,13 +263,13 @@ module _ (types : Types) (s : Sampling) (block : ℕ) (f : Flags) (z : Sizes) (e
 
   -- the grids of Y, and of U and V
   luma_grid : (n : ℕ) → is_of types 1 (at n) ≡ true → ((settled (at n)).columns ≡ w) × ((settled (at n)).rows ≡ h)
-  luma_grid n q = let k = number (types (at n).index) 1 q in grind (arith, nat_tests)
+  luma_grid n q = let k = type_kept (types (at n).index) 1 q in grind (arith, nat_tests)
 
   chroma_grid : (n : ℕ) → (is_of types 2 (at n) ≡ true) ⊎ (is_of types 3 (at n) ≡ true)
       → ((settled (at n)).columns ≡ w / across_of s) × ((settled (at n)).rows ≡ h / down_of s)
   chroma_grid n o =
-      let a = number (types (at n).index) 2 in
-      let b = number (types (at n).index) 3 in
+      let a = type_kept (types (at n).index) 2 in
+      let b = type_kept (types (at n).index) 3 in
       grind (arith, nat_tests, a, b)
 
   -- in interleave 5 only Y stands more than once

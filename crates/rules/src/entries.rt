@@ -7,8 +7,8 @@ ghost use Rattle.rules.specs.Rules.{each_keeps};
 ghost use Rattle.rules.specs.Typing.{types, entries, packing};
 
 use crate::refused::refused_at;
-use crate::typed::{PALETTE, Typed, Y};
-use boxes::{Entry, Format, Interleave};
+use crate::typed::Typed;
+use boxes::{ComponentType, Entry, Format, Interleave};
 use fault::{Fault, Reason};
 
 fn depth_fits(format: Format, depth: u16) -> bool
@@ -61,7 +61,7 @@ impl Typed<'_> {
         let defined = self.boxes.component_type(entry.index).is_some();
         let again = is_listed(earlier, entry.index);
         let many = self.listing.packing.interleave == Interleave::MultiY;
-        defined && (!again || (many && self.is_of(Y, entry)))
+        defined && (!again || (many && self.is_of(ComponentType::Y, entry)))
     }
 
     pub(crate) fn indexes(&self) -> Result<(), Fault>
@@ -79,7 +79,7 @@ impl Typed<'_> {
     {
         let depth = entry.depth();
         depth_fits(entry.format, depth)
-            && (!self.is_of(PALETTE, entry) || entry.format == Format::Integer)
+            && (!self.is_of(ComponentType::Palette, entry) || entry.format == Format::Integer)
             && align_fits(entry.align, depth)
     }
 

@@ -1,12 +1,13 @@
 // Which interleaves go with a sampling, and what they list.
 ghost use Rattle.std.specs.Prelude.{◌≡◌, not};
 ghost use Rattle.std.specs.List.{list_all};
+ghost use Rattle.choices.specs.ComponentTypes.{type_number};
 ghost use Rattle.rules.specs.Entries.{is_of};
 ghost use Rattle.rules.specs.Interleaving.{goes_with, same_of, one_index_of, yuv, is_yuv, alike, list_fits, is_interleaved};
 ghost use Rattle.rules.specs.Typing.{types, entries, packing};
 
-use crate::typed::{Typed, U, V, Y};
-use boxes::{Entry, Interleave, Sampling};
+use crate::typed::Typed;
+use boxes::{ComponentType, Entry, Interleave, Sampling};
 
 fn goes_with(sampling: Sampling, interleave: Interleave) -> bool
     ensures { result ≡ goes_with sampling interleave }
@@ -42,49 +43,53 @@ fn all_alike(entries: &[Entry]) -> bool
 }
 
 impl Typed<'_> {
-    fn is_same(&self, number: u16, a: &Entry, b: &Entry) -> bool
-        ensures { result ≡ same_of (types self.now) number a.now b.now }
+    fn is_same(&self, wanted: ComponentType, a: &Entry, b: &Entry) -> bool
+        ensures { result ≡ same_of (types self.now) (type_number wanted) a.now b.now }
     {
-        !(self.is_of(number, a) && self.is_of(number, b)) || a.index == b.index
+        !(self.is_of(wanted, a) && self.is_of(wanted, b)) || a.index == b.index
     }
 
-    // Whether no entry is of the type with this number.
-    fn lists_none(&self, number: u16) -> bool
-        ensures { result ≡ list_all (λ e. not (is_of (types self.now) number e)) (entries self.now) }
+    // Whether no entry is of this type.
+    fn lists_none(&self, wanted: ComponentType) -> bool
+        ensures { result ≡ list_all (λ e. not (is_of (types self.now) (type_number wanted) e)) (entries self.now) }
     {
-        self.entries().iter().all(|e| !self.is_of(number, e))
+        self.entries().iter().all(|e| !self.is_of(wanted, e))
     }
 
-    fn lists_same_as(&self, number: u16, a: &Entry) -> bool
-        ensures { result ≡ list_all (same_of (types self.now) number a.now) (entries self.now) }
+    fn lists_same_as(&self, wanted: ComponentType, a: &Entry) -> bool
+        ensures { result ≡ list_all (same_of (types self.now) (type_number wanted) a.now) (entries self.now) }
     {
-        self.entries().iter().all(|b| self.is_same(number, a, b))
+        self.entries().iter().all(|b| self.is_same(wanted, a, b))
     }
 
-    // Whether all entries of the type with this number list one index.
-    fn lists_same(&self, number: u16) -> bool
-        ensures { result ≡ list_all (λ a. list_all (same_of (types self.now) number a) (entries self.now)) (entries self.now) }
+    // Whether all entries of this type list one index.
+    fn lists_same(&self, wanted: ComponentType) -> bool
+        ensures { result ≡ list_all (λ a. list_all (same_of (types self.now) (type_number wanted) a) (entries self.now)) (entries self.now) }
     {
-        self.entries().iter().all(|a| self.lists_same_as(number, a))
+        self.entries().iter().all(|a| self.lists_same_as(wanted, a))
     }
 
-    fn one_index_of(&self, number: u16) -> bool
-        ensures { result ≡ one_index_of (types self.now) number (entries self.now) }
+    fn one_index_of(&self, wanted: ComponentType) -> bool
+        ensures { result ≡ one_index_of (types self.now) (type_number wanted) (entries self.now) }
     {
-        !self.lists_none(number) && self.lists_same(number)
+        !self.lists_none(wanted) && self.lists_same(wanted)
     }
 
     // One listed index each of Y, U and V.
     fn has_yuv(&self) -> bool
         ensures { result ≡ yuv (types self.now) (entries self.now) }
     {
-        self.one_index_of(Y) && self.one_index_of(U) && self.one_index_of(V)
+        self.one_index_of(ComponentType::Y)
+            && self.one_index_of(ComponentType::U)
+            && self.one_index_of(ComponentType::V)
     }
 
     fn is_yuv(&self, entry: &Entry) -> bool
         ensures { result ≡ is_yuv (types self.now) entry.now }
     {
-        self.is_of(Y, entry) || self.is_of(U, entry) || self.is_of(V, entry)
+        self.is_of(ComponentType::Y, entry)
+            || self.is_of(ComponentType::U, entry)
+            || self.is_of(ComponentType::V, entry)
     }
 
     fn lists_yuv(&self) -> bool
@@ -99,7 +104,7 @@ impl Typed<'_> {
         let entries = self.entries();
         match self.listing.packing.interleave {
             Interleave::Mixed => {
-                entries.len() == 3 && self.lists_yuv() && self.is_of(Y, &entries[0])
+                entries.len() == 3 && self.lists_yuv() && self.is_of(ComponentType::Y, &entries[0])
             }
             Interleave::MultiY => {
                 let luma = self.listing.packing.sampling.across();

@@ -1,17 +1,9 @@
 // A listing, and the boxes that say which type the component of each index has.
 ghost use Rattle.std.specs.Prelude.{◌≡◌};
+ghost use Rattle.choices.specs.ComponentTypes.{type_number};
 ghost use Rattle.rules.specs.Entries.{is_of};
 
-use boxes::{Boxes, Entry, Listing};
-
-// The types that the rules know: Y, U and V, and a palette's.
-pub(crate) const Y: u16 = 1;
-
-pub(crate) const U: u16 = 2;
-
-pub(crate) const V: u16 = 3;
-
-pub(crate) const PALETTE: u16 = 10;
+use boxes::{Boxes, ComponentType, Entry, Listing};
 
 #[derive(Clone, Copy)]
 pub(crate) struct Typed<'a> {
@@ -28,10 +20,13 @@ impl Typed<'_> {
         self.listing.entries()
     }
 
-    // Whether the entry's component has the type with this number.
-    pub(crate) fn is_of(&self, number: u16, entry: &Entry) -> bool
-        ensures { result ≡ is_of (types self.now) number entry.now }
+    // Whether the entry's component has this type. Two types are the same if their numbers are.
+    pub(crate) fn is_of(&self, wanted: ComponentType, entry: &Entry) -> bool
+        ensures { result ≡ is_of (types self.now) (type_number wanted) entry.now }
     {
-        self.boxes.component_type(entry.index) == Some(number)
+        match self.boxes.component_type(entry.index) {
+            Some(found) => u16::from(found) == u16::from(wanted),
+            None => false,
+        }
     }
 }

@@ -11,7 +11,7 @@ ghost use Rattle.plans.specs.Views.{packing_for, view_by, layout_answer};
 use super::Layout;
 use crate::frame::Frame;
 use crate::parts::Parts;
-use boxes::{Boxes, Entry as ListedEntry, Flags, Format, Listing, Sampling, Sizes};
+use boxes::{Boxes, ComponentType, Entry as ListedEntry, Flags, Format, Listing, Sampling, Sizes};
 use fault::{Fault, Layer, Reason};
 use plans::{Bits, Blocks, Bytes, Entry, Packing};
 use rules::check;
@@ -24,7 +24,7 @@ const WHOLE_LIST: u64 = 255;
 
 const BLANK: Entry = Entry {
     index: 0,
-    component_type: 0,
+    component_type: ComponentType::Mono,
     format: Format::Integer,
     depth: Bits(0),
     align: Bytes(0),
@@ -33,10 +33,10 @@ const BLANK: Entry = Entry {
 };
 
 // U and V.
-fn is_chroma(component_type: u16) -> bool
+fn is_chroma(component_type: ComponentType) -> bool
     ensures { result ≡ is_chroma component_type }
 {
-    component_type == 2 || component_type == 3
+    matches!(component_type, ComponentType::U | ComponentType::V)
 }
 
 // Fills in the grid of one entry.
@@ -56,13 +56,11 @@ fn settle(entry: &mut Entry, sampling: Sampling, width: u32, height: u32)
 fn unsettled(boxes: &Boxes, entry: &ListedEntry) -> Entry
     ensures { result ≡ unsettled_by (type_of boxes.now) entry.now }
 {
-    let component_type = match boxes.component_type(entry.index) {
-        Some(number) => number,
-        None => 0,
-    };
+    // Each listed index is defined.
+    let component_type = boxes.component_type(entry.index);
     Entry {
         index: entry.index,
-        component_type,
+        component_type: component_type.unwrap_or(ComponentType::Mono),
         format: entry.format,
         depth: Bits(u64::from(entry.depth())),
         align: Bytes(u64::from(entry.align)),
