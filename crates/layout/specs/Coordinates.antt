@@ -16,5 +16,5 @@ pub record Stands (v : View) (p : Place) (c : Coordinates) : Type 0 where
   pub group : Grouped v p c.group
   pub tile : c.tile ≡ tile_at (plan_of v) p
   pub row : c.row ≡ line_at (plan_of v) p
-  pub turn : c.turn ≡ turn_at (plan_of v) p
-  pub slot : c.slot ≡ slot_at (plan_of v) p
+  pub turn : c.seat.turn ≡ turn_at (plan_of v) p
+  pub slot : c.seat.slot ≡ slot_at (plan_of v) p

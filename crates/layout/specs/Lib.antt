@@ -6,6 +6,7 @@ pub mod Locating
 pub mod Once
 pub mod Orders
 pub mod Parts
+pub mod Seats
 pub mod Starting
 pub mod Walk
 pub mod Words

@@ -3,10 +3,12 @@ ghost use Rattle.std.specs.Prelude.{◌≡◌, ◌+◌, ◌*◌, ◌^◌, ◌<�
 ghost use Rattle.plans.specs.Cells.{cell_of, blocks_of};
 ghost use Rattle.plans.specs.Fit.{InBlocks};
 ghost use Rattle.layout.specs.Once.{in_blocks_once};
+ghost use Rattle.layout.specs.Seats.{Seated};
 ghost use Rattle.layout.specs.Words.{word_in};
 ghost use Rattle.placement.specs.Line.{repeated};
 ghost use Rattle.placement.specs.Pack.{blocked, blocks_end, block_word, nowhere, total};
 
+use crate::seat::Seat;
 use crate::units::bits_of;
 use crate::word::Word;
 use plans::{Bits, Blocks, Bytes, Entry};
@@ -166,17 +168,16 @@ impl Blocked<'_> {
         s
     }
 
-    // The word of the entry `slot` in the repetition `turn`.
-    pub(crate) fn word(&self, turn: u64, slot: usize) -> Word
-        requires turn { turn < self.now.count }
-        requires slot { slot < length self.now.cycle.now }
-        ensures is { word_in result ≡ slice_index_or (blocked (blocks_of self.now.block) 0 0 (repeated self.now.count (map cell_of self.now.cycle.now))) (turn * length self.now.cycle.now + slot) nowhere }
+    // The word at a seat.
+    pub(crate) fn word(&self, seat: Seat) -> Word
+        requires { Seated self.now.cycle.now self.now.count seat }
+        ensures is { word_in result ≡ slice_index_or (blocked (blocks_of self.now.block) 0 0 (repeated self.now.count (map cell_of self.now.cycle.now))) (seat.turn * length self.now.cycle.now + seat.slot) nowhere }
         ensures near { (result.first.0 ≤ 2 ^ 23) × (result.size.0 ≤ 9) }
     {
-        let depth = self.cycle[slot].depth;
-        let s = self.through(self.turn_at(turn), &self.cycle[..slot]);
+        let depth = self.cycle[seat.slot].depth;
+        let s = self.through(self.turn_at(seat.turn), &self.cycle[..seat.slot]);
         let open = self.open_for(s, depth);
-        let behind = turn * self.cycle.len() as u64 + slot as u64 + 1;
+        let behind = seat.turn * self.cycle.len() as u64 + seat.slot as u64 + 1;
         let filled = self.filled_from(open.bits + depth, behind);
         block_word(self.block, open.block, open.bits, filled, depth)
     }

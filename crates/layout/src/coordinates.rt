@@ -10,6 +10,7 @@ ghost use Rattle.plans.specs.Views.{plan_of};
 use crate::find::{occurrence, occurrences};
 use crate::group::Group;
 use crate::layout::Layout;
+use crate::seat::Seat;
 use crate::starts::LineAt;
 use crate::word::Word;
 use placement::Place;
@@ -20,8 +21,7 @@ pub(crate) struct Coordinates<'a> {
     pub number: usize,
     pub group: Group<'a>,
     pub row: u64,
-    pub turn: u64,
-    pub slot: usize,
+    pub seat: Seat,
 }
 
 // A place that the frame has, and the position of the first entry that lists its component.
@@ -78,8 +78,10 @@ impl<'a> Found<'a> {
             number,
             group,
             row: place.row % group.rows,
-            turn: column / often,
-            slot,
+            seat: Seat {
+                turn: column / often,
+                slot,
+            },
         }
     }
 
@@ -103,6 +105,6 @@ impl<'a> Found<'a> {
             group: at.number,
             row: at.row,
         };
-        at.group.line.word(at.turn, at.slot).moved(line.start())
+        at.group.line.word(at.seat).moved(line.start())
     }
 }

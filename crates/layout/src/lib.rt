@@ -13,6 +13,7 @@ mod line;
 mod locate;
 mod order;
 mod parts;
+mod seat;
 mod starts;
 mod stream;
 mod sums;

@@ -3,11 +3,13 @@ ghost use Rattle.std.specs.Prelude.{◌≡◌, ◌+◌, ◌*◌, ◌^◌, ◌<�
 ghost use Rattle.plans.specs.Cells.{cell_of, packing_of};
 ghost use Rattle.plans.specs.Fit.{Fitting};
 ghost use Rattle.layout.specs.Once.{fitting_once};
+ghost use Rattle.layout.specs.Seats.{Seated};
 ghost use Rattle.layout.specs.Words.{word_in};
 ghost use Rattle.placement.specs.Line.{repeated, run, run_bytes, line_word, line_bytes, up_to};
 ghost use Rattle.placement.specs.Pack.{nowhere};
 
 use crate::blocks::Blocked;
+use crate::seat::Seat;
 use crate::stream::Stream;
 use crate::word::Word;
 use plans::{Bytes, Entry, Packing};
@@ -61,17 +63,16 @@ impl<'a> Line<'a> {
         }
     }
 
-    // The word of the entry `slot` in the repetition `turn` of a run, which has no pixels.
-    fn run_word(&self, turn: u64, slot: usize) -> Word
-        requires turn { turn < self.now.count }
-        requires slot { slot < length self.now.cycle.now }
-        ensures is { word_in result ≡ slice_index_or (run (packing_of self.now.packing.now) (repeated self.now.count (map cell_of self.now.cycle.now))) (turn * length self.now.cycle.now + slot) nowhere }
+    // The word at a seat of a run, which has no pixels.
+    fn run_word(&self, seat: Seat) -> Word
+        requires { Seated self.now.cycle.now self.now.count seat }
+        ensures is { word_in result ≡ slice_index_or (run (packing_of self.now.packing.now) (repeated self.now.count (map cell_of self.now.cycle.now))) (seat.turn * length self.now.cycle.now + seat.slot) nowhere }
         ensures near { (result.first.0 ≤ 2 ^ 27) × (result.size.0 ≤ 9) }
     {
         if self.packing.blocks.bytes.0 == 0 {
-            self.stream().word(turn, slot)
+            self.stream().word(seat)
         } else {
-            self.blocked().word(turn, slot)
+            self.blocked().word(seat)
         }
     }
 
@@ -86,25 +87,28 @@ impl<'a> Line<'a> {
         }
     }
 
-    // The word of the entry `slot` in the repetition `turn`. With a pixel size each repetition is a run by itself, moved
+    // The word at a seat. With a pixel size each repetition is a run by itself, moved
     // to where its pixel begins.
-    pub(crate) fn word(&self, turn: u64, slot: usize) -> Word
-        requires turn { turn < self.now.count }
-        requires slot { slot < length self.now.cycle.now }
-        ensures is { word_in result ≡ line_word (packing_of self.now.packing.now) (map cell_of self.now.cycle.now) self.now.count turn slot }
+    pub(crate) fn word(&self, seat: Seat) -> Word
+        requires { Seated self.now.cycle.now self.now.count seat }
+        ensures is { word_in result ≡ line_word (packing_of self.now.packing.now) (map cell_of self.now.cycle.now) self.now.count seat.turn seat.slot }
         ensures near { (result.first.0 ≤ 2 ^ 33) × (result.size.0 ≤ 9) }
     {
         if self.packing.pixel.0 == 0 {
-            self.run_word(turn, slot)
+            self.run_word(seat)
         } else {
             let pixel = Line {
                 packing: self.packing,
                 cycle: self.cycle,
                 count: 1,
             };
+            let first = Seat {
+                turn: 0,
+                slot: seat.slot,
+            };
             pixel
-                .run_word(0, slot)
-                .moved(Bytes(turn * self.packing.pixel.0))
+                .run_word(first)
+                .moved(Bytes(seat.turn * self.packing.pixel.0))
         }
     }
 

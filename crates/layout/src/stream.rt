@@ -4,10 +4,12 @@ ghost use Rattle.std.specs.Prelude.{◌≡◌, ◌+◌, ◌*◌, ◌/◌, ◌^�
 ghost use Rattle.plans.specs.Cells.{cell_of};
 ghost use Rattle.plans.specs.Fit.{Narrow, Streams};
 ghost use Rattle.layout.specs.Once.{streams_once};
+ghost use Rattle.layout.specs.Seats.{Seated};
 ghost use Rattle.layout.specs.Words.{word_in};
 ghost use Rattle.placement.specs.Line.{repeated};
 ghost use Rattle.placement.specs.Pack.{packed, packed_word, packed_end, after, nowhere};
 
+use crate::seat::Seat;
 use crate::units::{bits_of, whole_bytes};
 use crate::word::Word;
 use plans::{Bits, Bytes, Entry};
@@ -104,15 +106,14 @@ impl Stream<'_> {
         }
     }
 
-    // The word of the entry `slot` in the repetition `turn`.
-    pub(crate) fn word(&self, turn: u64, slot: usize) -> Word
-        requires turn { turn < self.now.count }
-        requires slot { slot < length self.now.cycle.now }
-        ensures is { word_in result ≡ slice_index_or (packed self.now.little 0 (repeated self.now.count (map cell_of self.now.cycle.now))) (turn * length self.now.cycle.now + slot) nowhere }
+    // The word at a seat.
+    pub(crate) fn word(&self, seat: Seat) -> Word
+        requires { Seated self.now.cycle.now self.now.count seat }
+        ensures is { word_in result ≡ slice_index_or (packed self.now.little 0 (repeated self.now.count (map cell_of self.now.cycle.now))) (seat.turn * length self.now.cycle.now + seat.slot) nowhere }
         ensures near { (result.first.0 ≤ 2 ^ 27) × (result.size.0 ≤ 9) }
     {
-        let free = free_after_all(self.start_of(turn), &self.cycle[..slot]);
-        word_after(self.little, free, self.cycle[slot])
+        let free = free_after_all(self.start_of(seat.turn), &self.cycle[..seat.slot]);
+        word_after(self.little, free, self.cycle[seat.slot])
     }
 
     pub(crate) fn bytes(&self) -> Bytes

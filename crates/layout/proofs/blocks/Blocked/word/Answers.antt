@@ -13,14 +13,14 @@ use Rattle.placement.specs.Pack.{total}
 pub through-s-requires : goal.through-s-requires
 through-s-requires c =
     let s = c.args.self.now in
-    record { fits = in_blocks-take s.block s.cycle.now c.args.slot s.fits; room = c.turn_at.ensures.room; low = omega (arith, c.turn_at.ensures.low, c.requires.slot, s.fits.short, length-take c.args.slot s.cycle.now) }
+    record { fits = in_blocks-take s.block s.cycle.now c.args.seat.slot s.fits; room = c.turn_at.ensures.room; low = omega (arith, c.turn_at.ensures.low, c.requires.slot, s.fits.short, length-take c.args.seat.slot s.cycle.now) }
 
 pub open_for-open-requires : goal.open_for-open-requires
 open_for-open-requires c =
     record {
       room = c.through-s.ensures.room;
-      within = within_at c.args.self.now.block c.args.self.now.cycle.now c.args.slot c.requires.slot c.args.self.now.fits;
-      low = omega (arith, c.through-s.ensures.near, c.turn_at.ensures.low, c.requires.slot, c.args.self.now.fits.short, length-take c.args.slot c.args.self.now.cycle.now);
+      within = within_at c.args.self.now.block c.args.self.now.cycle.now c.args.seat.slot c.requires.slot c.args.self.now.fits;
+      low = omega (arith, c.through-s.ensures.near, c.turn_at.ensures.low, c.requires.slot, c.args.self.now.fits.short, length-take c.args.seat.slot c.args.self.now.cycle.now);
     }
 
 pub filled_from-filled-requires : goal.filled_from-filled-requires
@@ -34,34 +34,34 @@ filled_from-filled-requires c =
 -- the bits of the block in the end, by its bits before and with the value
 filled : (c : After-filled_from-filled)
     → c.filled_from-filled.result.0
-    ≡ total (blocks_of c.args.self.now.block) (c.open_for-open.result.bits.0 + (get_or c.args.self.now.cycle.now c.args.slot none).depth.0)
-    (drop (c.args.turn * length c.args.self.now.cycle.now + c.args.slot + 1) (repeated c.args.self.now.count (map cell_of c.args.self.now.cycle.now)))
+    ≡ total (blocks_of c.args.self.now.block) (c.open_for-open.result.bits.0 + (get_or c.args.self.now.cycle.now c.args.seat.slot none).depth.0)
+    (drop (c.args.seat.turn * length c.args.self.now.cycle.now + c.args.seat.slot + 1) (repeated c.args.self.now.count (map cell_of c.args.self.now.cycle.now)))
 filled c =
     let s = c.args.self.now in
     c.filled_from-filled.ensures.is
-    ∙ ap (λ (o : ℕ). total (blocks_of s.block) o (drop (c.args.turn * length s.cycle.now + c.args.slot + 1) (repeated s.count (map cell_of s.cycle.now)))) c.add.ensures
+    ∙ ap (λ (o : ℕ). total (blocks_of s.block) o (drop (c.args.seat.turn * length s.cycle.now + c.args.seat.slot + 1) (repeated s.count (map cell_of s.cycle.now)))) c.add.ensures
 
 pub block_word-requires : goal.block_word-requires
 block_word-requires c =
     let s = c.args.self.now in
     let f =
-    filled_fits (blocks_of s.block) (drop (c.args.turn * length s.cycle.now + c.args.slot + 1) (repeated s.count (map cell_of s.cycle.now))) _
+    filled_fits (blocks_of s.block) (drop (c.args.seat.turn * length s.cycle.now + c.args.seat.slot + 1) (repeated s.count (map cell_of s.cycle.now))) _
     c.filled_from-filled.result.0 c.open_for-open.ensures.fits (filled (goal.at.block_word-requires c).After-filled_from-filled) in
     record {
       inside = f.0;
       room = f.1;
       small = s.fits.small;
-      low = omega (arith, c.open_for-open.ensures.near, c.through-s.ensures.near, c.turn_at.ensures.low, c.requires.slot, s.fits.short, length-take c.args.slot s.cycle.now);
+      low = omega (arith, c.open_for-open.ensures.near, c.through-s.ensures.near, c.turn_at.ensures.low, c.requires.slot, s.fits.short, length-take c.args.seat.slot s.cycle.now);
     }
 
 pub returns : goal.returns
 returns c =
     record {
-      is = block_word_is c.args.self.now.cycle.now c.args.self.now.count c.args.turn c.args.slot c.filled_from-filled.result.0 (word_in c.block_word.result)
+      is = block_word_is c.args.self.now.cycle.now c.args.self.now.count c.args.seat.turn c.args.seat.slot c.filled_from-filled.result.0 (word_in c.block_word.result)
           c.requires.turn c.requires.slot c.turn_at.ensures.is c.through-s.ensures.is c.open_for-open.ensures.is
           (filled (goal.at.returns c).After-filled_from-filled) c.block_word.ensures.is;
       near = (
-        omega (arith, c.block_word.ensures.near.0, c.open_for-open.ensures.near, c.through-s.ensures.near, c.turn_at.ensures.low, c.requires.slot, c.args.self.now.fits.short, length-take c.args.slot c.args.self.now.cycle.now),
+        omega (arith, c.block_word.ensures.near.0, c.open_for-open.ensures.near, c.through-s.ensures.near, c.turn_at.ensures.low, c.requires.slot, c.args.self.now.fits.short, length-take c.args.seat.slot c.args.self.now.cycle.now),
         c.block_word.ensures.near.1,
       );
     }

@@ -3,8 +3,8 @@ use Rattle.std.proofs.lemmas.List.{length-map}
 use Rattle.placement.specs.Grid.{start}
 use Rattle.placement.specs.Line.{Packing, line_word, moved}
 use Rattle.placement.specs.Pack.{Cell}
-use Rattle.placement.specs.Place.{Slot, cells, grid, home, strip, turn_at, slot_at, tile_at, line_at}
-use Rattle.placement.proofs.Places.{tile_below, line_below, entry_below}
+use Rattle.placement.specs.Place.{Slot, Strip, cells, grid, home, strip, turn_at, slot_at, tile_at, line_at}
+use Rattle.placement.proofs.Places.{tile_below, line_below, turn_below, entry_below}
 use Rattle.plans.specs.Cells.{cell_of, packing_of}
 use Rattle.plans.specs.Views.{plan_of}
 use Rattle.layout.specs.Layouts.{shown}
@@ -13,20 +13,23 @@ use Rattle.layout.proofs.Grouping.{cells_in, by_strip}
 use Rattle.layout.proofs.Placing.{by_cycle, rows_is}
 use Rattle.layout.proofs.coordinates.Found.word.Goals as goal
 
-pub word-requires-clause-slot : goal.word-requires-clause-slot
-word-requires-clause-slot c =
+pub word-requires : goal.word-requires
+word-requires c =
     let f = c.args.self.now in
     let v = shown f.layout.now in
     let s = c.coordinates-at.ensures in
     let g = c.coordinates-at.result.group in
-    omega (
-      arith,
-      s.slot,
-      entry_below (plan_of v) f.place f.valid,
-      by_cycle v f.place g s.group (λ (ss : List Slot). length (map (λ x. x.cell) ss)),
-      length-map g.line.cycle.now cell_of,
-      ap length (cells_in g.line.cycle.now),
-    )
+    record {
+      turn = omega (arith, s.turn, turn_below (plan_of v) f.place f.valid, ap (λ (x : Strip). x.count) s.group.strip);
+      slot = omega (
+        arith,
+        s.slot,
+        entry_below (plan_of v) f.place f.valid,
+        by_cycle v f.place g s.group (λ (ss : List Slot). length (map (λ x. x.cell) ss)),
+        length-map g.line.cycle.now cell_of,
+        ap length (cells_in g.line.cycle.now),
+      );
+    }
 
 pub invariant_of-line : goal.invariant_of-line
 invariant_of-line c =
@@ -54,8 +57,8 @@ returns-clause-is c =
     let s = c.coordinates-at.ensures in
     let w = line_word (packing_of v.packing) (cells (plan_of v) h) (strip (plan_of v) h).count in
     let word : word_in c.word.result ≡ w (turn_at (plan_of v) p) (slot_at (plan_of v) p) =
-    c.word.ensures.is ∙ by_strip (λ (q : Packing) (cs : List Cell) (n : ℕ). line_word q cs n at.turn at.slot) v at.group h s.group
-    ∙ ap (λ (x : ℕ). w x at.slot) s.turn ∙ ap (w (turn_at (plan_of v) p)) s.slot in
+    c.word.ensures.is ∙ by_strip (λ (q : Packing) (cs : List Cell) (n : ℕ). line_word q cs n at.seat.turn at.seat.slot) v at.group h s.group
+    ∙ ap (λ (x : ℕ). w x at.seat.slot) s.turn ∙ ap (w (turn_at (plan_of v) p)) s.slot in
     let begins : c.start.result.0 ≡ start (grid (plan_of v)) (tile_at (plan_of v) p) h (line_at (plan_of v) p) =
     c.start.ensures.is ∙ ap (λ (x : ℕ). start (grid (plan_of v)) x at.number at.row) s.tile
     ∙ ap (λ (x : ℕ). start (grid (plan_of v)) (tile_at (plan_of v) p) x at.row) s.number
