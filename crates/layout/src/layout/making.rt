@@ -32,6 +32,13 @@ const BLANK: Entry = Entry {
     rows: 0,
 };
 
+// The sides of a frame.
+#[derive(Clone, Copy)]
+struct Sides {
+    width: u32,
+    height: u32,
+}
+
 // U and V.
 fn is_chroma(component_type: ComponentType) -> bool
     ensures { result ≡ is_chroma component_type }
@@ -40,16 +47,16 @@ fn is_chroma(component_type: ComponentType) -> bool
 }
 
 // Fills in the grid of one entry.
-fn settle(entry: &mut Entry, sampling: Sampling, width: u32, height: u32)
-    ensures { entry.new ≡ settled_in sampling width height entry.old }
+fn settle(entry: &mut Entry, sampling: Sampling, sides: Sides)
+    ensures { entry.new ≡ settled_in sampling sides.width sides.height entry.old }
 {
     let (across, down) = if is_chroma(entry.component_type) {
         (sampling.across(), sampling.down())
     } else {
         (1, 1)
     };
-    entry.columns = u64::from(width) / across;
-    entry.rows = u64::from(height) / down;
+    entry.columns = u64::from(sides.width) / across;
+    entry.rows = u64::from(sides.height) / down;
 }
 
 // An entry as it is listed, with its component's type.
@@ -74,17 +81,16 @@ fn table_of(
     boxes: &Boxes,
     entries: &[ListedEntry],
     sampling: Sampling,
-    width: u32,
-    height: u32,
+    sides: Sides,
 ) -> [Entry; 16]
     requires { length entries.now ≤ 16 }
-    ensures { take (length entries.now) result ≡ map (entry_for (type_of boxes.now) sampling width height) entries.now }
+    ensures { take (length entries.now) result ≡ map (entry_for (type_of boxes.now) sampling sides.width sides.height) entries.now }
 {
     let mut table = [BLANK; 16];
     // The table is lent by its index: after an adapter of `iter_mut` a proof knows none of its entries.
     for (i, entry) in entries.iter().enumerate() {
         table[i] = unsettled(boxes, entry);
-        settle(&mut table[i], sampling, width, height);
+        settle(&mut table[i], sampling, sides);
     }
     table
 }
@@ -113,17 +119,17 @@ fn tiles_of(less_one: u32) -> u64
     u64::from(less_one) + 1
 }
 
-fn parts_of(boxes: &Boxes, listing: &Listing, width: u32, height: u32) -> Parts
-    ensures view { view_of result ≡ view_by (type_of boxes.now) listing.now width height }
+fn parts_of(boxes: &Boxes, listing: &Listing, sides: Sides) -> Parts
+    ensures view { view_of result ≡ view_by (type_of boxes.now) listing.now sides.width sides.height }
     ensures counted { result.count ≡ length (view_of result).entries }
     ensures few { length (listed_in listing.now) ≤ 16 }
 {
     let packing = listing.packing;
     let entries = listing.entries();
-    let table = table_of(boxes, entries, packing.sampling, width, height);
+    let table = table_of(boxes, entries, packing.sampling, sides);
     Parts {
-        width,
-        height,
+        width: sides.width,
+        height: sides.height,
         sampling: packing.sampling,
         interleave: packing.interleave,
         packing: packing_of(packing.block, packing.flags, &listing.sizes),
@@ -142,7 +148,7 @@ impl Layout {
         check(boxes, width, height)?;
         let listing = boxes.configuration.listing();
         let frame = Frame {
-            parts: parts_of(boxes, &listing, width, height),
+            parts: parts_of(boxes, &listing, Sides { width, height }),
         };
         let size = frame.frame_bytes();
         if size > LARGEST {

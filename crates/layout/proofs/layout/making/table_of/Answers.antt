@@ -8,13 +8,13 @@ use Rattle.layout.proofs.layout.making.table_of.Goals as goal
 
 pub loop-i-preserved : goal.loop-i-preserved
 loop-i-preserved c =
-    filled (entry_for (type_of c.args.boxes.now) c.args.sampling c.args.width c.args.height) c.args.entries.now c.loop-i.table c.loop-i.i
+    filled (entry_for (type_of c.args.boxes.now) c.args.sampling c.args.sides.width c.args.sides.height) c.args.entries.now c.loop-i.table c.loop-i.i
     c.unsettled.result c.settle.new.entry blank (omega arith) c.requires c.loop-i.invariant.0 c.loop-i.invariant.1
-    (c.settle.ensures ∙ ap (settled_in c.args.sampling c.args.width c.args.height)
+    (c.settle.ensures ∙ ap (settled_in c.args.sampling c.args.sides.width c.args.sides.height)
     (get_or-set_same c.loop-i.table c.loop-i.i c.unsettled.result no_entry (omega (arith, c.loop-i.invariant.0, c.requires)) ∙ c.unsettled.ensures))
 
 pub returns : goal.returns
 returns c =
     let n : length c.args.entries.now ≡ c.loop-i.i = omega arith in
     ap (λ (k : ℕ). take k c.loop-i.table) n ∙ c.loop-i.invariant.1
-    ∙ ap (map (entry_for (type_of c.args.boxes.now) c.args.sampling c.args.width c.args.height)) (take_all c.loop-i.i c.args.entries.now (omega arith))
+    ∙ ap (map (entry_for (type_of c.args.boxes.now) c.args.sampling c.args.sides.width c.args.sides.height)) (take_all c.loop-i.i c.args.entries.now (omega arith))

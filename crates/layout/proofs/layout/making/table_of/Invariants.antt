@@ -5,4 +5,4 @@ use Rattle.layout.proofs.layout.making.table_of.Given as goal
 
 abbrev pub invariant-loop-i : goal.invariant-loop-i
 invariant-loop-i l =
-    (length l.table ≡ 16) × (take l.i l.table ≡ map (entry_for (type_of l.boxes) l.sampling l.width l.height) (take l.i l.entries))
+    (length l.table ≡ 16) × (take l.i l.table ≡ map (entry_for (type_of l.boxes) l.sampling l.sides.width l.sides.height) (take l.i l.entries))
