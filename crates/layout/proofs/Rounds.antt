@@ -63,12 +63,9 @@ along : {b : Blocks} {s t : State} {xs ys : List Cell} → xs ≡ ys → Walked 
 along {b} {s} {t} e w = subst (λ (zs : List Cell). Walked b s zs t) e w
 
 -- by one entry
-pub entry_on : {b : Blocks} {s t u : State} (xs : List Entry) (v : State) (i : ℕ) → i < length xs
-    → Walked b s (take i (map cell_of xs)) t → Opened b t (get_or xs i none).depth.0 u → v.block ≡ u.block → v.bits.0 ≡ u.bits.0 + (get_or xs i none).depth.0
-    → Walked b s (take (i + 1) (map cell_of xs)) v
-entry_on xs v i h w o p q =
-    along (sym next)
-    (on (take i (map cell_of xs)) (cell_of (get_or xs i none) ∷ []) w (record { block = p ∙ o.block; bits = q ∙ ap (λ (x : ℕ). x + (get_or xs i none).depth.0) o.bits }))
+pub entry_on : {b : Blocks} {s t u : State} (xs : List Entry) (i : ℕ) → i < length xs
+    → Walked b s (take i (map cell_of xs)) t → Walked b t (cell_of (get_or xs i none) ∷ []) u → Walked b s (take (i + 1) (map cell_of xs)) u
+entry_on xs i h w o = along (sym next) (on (take i (map cell_of xs)) (cell_of (get_or xs i none) ∷ []) w o)
   where
     next : take (i + 1) (map cell_of xs) ≡ take i (map cell_of xs) ++ cell_of (get_or xs i none) ∷ []
     next =
@@ -102,7 +99,7 @@ far {b} xs r h g w = omega (arith, w.block, block_near (blocks_of b) (repeated r
 
 -- m rounds of n repetitions left out
 skipped : {b : Blocks} {s t : State} (es : List Cell) (lead n m : ℕ) → Walked b origin (repeated lead es) s → Walked b origin (repeated (lead + n) es) t
-    → t.bits.0 ≡ s.bits.0 → Walked b origin (repeated (lead + m * n) es) (record { block = s.block + m * (t.block - s.block); bits = s.bits })
+    → t.bits.0 ≡ s.bits.0 → Walked b origin (repeated (lead + m * n) es) (record { block = s.block + m * (t.block - s.block); bits = s.bits; few = s.few })
 skipped {b} {s} {t} es lead n m p q r =
     record { block = cc (block_again (blocks_of b) es lead n same m 0, z, y); bits = cc (held_again (blocks_of b) es lead n same m 0, z, y) }
   where
@@ -118,7 +115,7 @@ skipped {b} {s} {t} es lead n m p q r =
 -- the bits of s come round in t, n repetitions later: where the whole rounds of `left` repetitions lead
 pub record Leap (b : Blocks) (xs : List Entry) (lead left n : ℕ) (s t : State) : Type 0 where
   pub up : s.block ≤ t.block
-  pub walk : Walked b origin (repeated (lead + left / n * n) (map cell_of xs)) (record { block = s.block + left / n * (t.block - s.block); bits = s.bits })
+  pub walk : Walked b origin (repeated (lead + left / n * n) (map cell_of xs)) (record { block = s.block + left / n * (t.block - s.block); bits = s.bits; few = s.few })
   pub low : s.block + left / n * (t.block - s.block) ≤ 2 ^ 19
   pub rest : left / n * n + left % n ≡ left
 

@@ -1,4 +1,5 @@
 -- What a walk along a line in blocks keeps.
+use Prim.Native.Nat.{zero-le}
 use Rattle.std.specs.Prelude.{◌≡◌, ℕ, List}
 use Rattle.layout.specs.declared.blocks.State.{State}
 use Rattle.plans.specs.declared.packing.Blocks.{Blocks}
@@ -8,7 +9,7 @@ use Rattle.placement.specs.Steps.{block_after, held_after}
 
 -- the first block, with nothing in it
 abbrev pub origin : State
-origin = record { block = 0; bits = record { 0 = 0 } }
+origin = record { block = 0; bits = record { 0 = 0 }; few = zero-le }
 
 -- behind the state s, the state t before d bits more
 pub record Opened (b : Blocks) (s : State) (d : ℕ) (t : State) : Type 0 where

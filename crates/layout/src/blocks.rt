@@ -1,5 +1,5 @@
 // The values of a line in blocks. A block takes values as long as they fit; then the next one is opened.
-ghost use Rattle.std.specs.Prelude.{◌≡◌, ◌+◌, ◌*◌, ◌^◌, ◌<◌, ◌≤◌, map, length, drop, slice_index_or};
+ghost use Rattle.std.specs.Prelude.{◌≡◌, ◌+◌, ◌*◌, ◌^◌, ◌<◌, ◌≤◌, [], ◌∷◌, map, length, drop, slice_index_or};
 ghost use Rattle.plans.specs.Cells.{cell_of, blocks_of};
 ghost use Rattle.plans.specs.Fit.{InBlocks};
 ghost use Rattle.layout.specs.Once.{in_blocks_once};
@@ -24,11 +24,12 @@ pub(crate) struct Blocked<'a> {
     ghost few: { count ≤ 32768 },
 }
 
-// The open block of a walk along a line, and the bits that it has.
+// The open block of a walk along a line, and the bits that it has, which are those of at most 8 bytes.
 #[derive(Clone, Copy)]
 pub(crate) struct State {
     pub block: u64,
     pub bits: Bits,
+    ghost few: { bits.0 ≤ 64 },
 }
 
 // The word of `depth` bits behind `before` others, in a block that has `filled` bits in the end.
@@ -64,7 +65,6 @@ impl Blocked<'_> {
 
     // The block that takes `depth` bits more, and its bits before them.
     fn open_for(&self, s: State, depth: Bits) -> State
-        requires room { s.bits.0 ≤ 8 * self.now.block.bytes.0 }
         requires within { depth.0 ≤ 8 * self.now.block.bytes.0 }
         requires low { s.block ≤ 2 ^ 20 }
         ensures is { Opened self.now.block s depth.0 result }
@@ -102,32 +102,38 @@ impl Blocked<'_> {
         filled
     }
 
+    // The state behind one entry.
+    fn past(&self, s: State, entry: Entry) -> State
+        requires within { entry.depth.0 ≤ 8 * self.now.block.bytes.0 }
+        requires low { s.block ≤ 2 ^ 20 }
+        ensures is { Walked self.now.block s (cell_of entry ∷ []) result }
+        ensures near { result.block ≤ s.block + 1 }
+    {
+        let open = self.open_for(s, entry.depth);
+        State {
+            block: open.block,
+            bits: open.bits + entry.depth,
+        }
+    }
+
     // The state behind some entries.
     fn through(&self, s: State, entries: &[Entry]) -> State
         requires fits { InBlocks self.now.block entries.now }
-        requires room { s.bits.0 ≤ 8 * self.now.block.bytes.0 }
         requires low { s.block + length entries.now ≤ 2 ^ 20 }
         ensures is { Walked self.now.block s (map cell_of entries.now) result }
-        ensures room { result.bits.0 ≤ 8 * self.now.block.bytes.0 }
         ensures near { result.block ≤ s.block + length entries.now }
     {
         let mut t = s;
         for entry in entries {
-            let open = self.open_for(t, entry.depth);
-            t = State {
-                block: open.block,
-                bits: open.bits + entry.depth,
-            };
+            t = self.past(t, *entry);
         }
         t
     }
 
     // The state behind `n` repetitions of the cycle.
     fn rounds(&self, s: State, n: u64) -> State
-        requires room { s.bits.0 ≤ 8 * self.now.block.bytes.0 }
         requires low { s.block + n * length self.now.cycle.now ≤ 2 ^ 20 }
         ensures is { Walked self.now.block s (repeated n (map cell_of self.now.cycle.now)) result }
-        ensures room { result.bits.0 ≤ 8 * self.now.block.bytes.0 }
         ensures near { result.block ≤ s.block + n * length self.now.cycle.now }
     {
         let mut t = s;
@@ -142,7 +148,6 @@ impl Blocked<'_> {
     fn turn_at(&self, turn: u64) -> State
         requires { turn ≤ 32768 }
         ensures is { Walked self.now.block origin (repeated turn (map cell_of self.now.cycle.now)) result }
-        ensures room { result.bits.0 ≤ 8 * self.now.block.bytes.0 }
         ensures low { result.block ≤ 2 ^ 19 }
     {
         let lead = turn.min(64);

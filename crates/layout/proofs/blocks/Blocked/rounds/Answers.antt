@@ -6,11 +6,10 @@ pub through-t-requires : goal.through-t-requires
 through-t-requires c =
     let a : c.loop-turn._turn + 1 ≤ c.args.n = omega arith in
     let l : length c.args.self.now.cycle.now ≤ length c.args.self.now.cycle.now = omega arith in
-    record { fits = c.args.self.now.fits; room = c.loop-turn.invariant.1; low = omega (arith, mul-le-mul a l, c.loop-turn.invariant.0, c.requires.low) }
+    record { fits = c.args.self.now.fits; low = omega (arith, mul-le-mul a l, c.loop-turn.invariant.0, c.requires.low) }
 
 pub loop-turn-preserved : goal.loop-turn-preserved
 loop-turn-preserved c = (
   omega (arith, c.through-t.ensures.near, c.loop-turn.invariant.0),
-  c.through-t.ensures.room,
-  turn_on c.args.self.now.cycle.now c.loop-turn._turn c.loop-turn.invariant.2 c.through-t.ensures.is,
+  turn_on c.args.self.now.cycle.now c.loop-turn._turn c.loop-turn.invariant.1 c.through-t.ensures.is,
 )

@@ -6,5 +6,5 @@ use Rattle.placement.specs.Line.{repeated}
 
 abbrev pub invariant-loop-turn : goal.invariant-loop-turn
 invariant-loop-turn l =
-    (l.t.block ≤ l.initial.t.block + l._turn * length l.self.cycle.now) × (l.t.bits.0 ≤ 8 * l.self.block.bytes.0)
+    (l.t.block ≤ l.initial.t.block + l._turn * length l.self.cycle.now)
     × Walked l.self.block l.initial.t (repeated l._turn (map cell_of l.self.cycle.now)) l.t

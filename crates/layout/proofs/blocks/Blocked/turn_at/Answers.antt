@@ -7,8 +7,7 @@ use Rattle.layout.proofs.blocks.Blocked.turn_at.Goals.{Then-eq}
 pub rounds-s-requires : goal.rounds-s-requires
 rounds-s-requires c =
     record {
-      room = c.loop-before.invariant.0;
-      low = omega (arith, c.args.self.now.fits.short, far c.args.self.now.cycle.now (c.min-lead.result + c.loop-before.before) (omega arith) c.args.self.now.fits.short c.loop-before.invariant.1);
+      low = omega (arith, c.args.self.now.fits.short, far c.args.self.now.cycle.now (c.min-lead.result + c.loop-before.before) (omega arith) c.args.self.now.fits.short c.loop-before.invariant);
     }
 
 leaps : (c : Then-eq)
@@ -16,7 +15,7 @@ leaps : (c : Then-eq)
 leaps c =
     let same : c.rounds-s.result.bits.0 ≡ c.rounds-first.result.bits.0 = search rules in
     leap c.args.self.now.cycle.now c.min-lead.result (c.args.turn - c.min-lead.result) c.loop-before.before c.args.self.now.fits.short (omega arith)
-    c.rounds-first.ensures.is c.loop-before.invariant.1 c.rounds-s.ensures.is same
+    (record { block = c.rounds-first.ensures.is.block; bits = c.rounds-first.ensures.is.bits }) c.loop-before.invariant c.rounds-s.ensures.is same
 
 pub overflow_sub-skipped : goal.overflow_sub-skipped
 overflow_sub-skipped c = (leaps (goal.at.overflow_sub-skipped c).Then-eq).up
@@ -31,21 +30,21 @@ pub rounds-requires : goal.rounds-requires
 rounds-requires c =
     let l = leaps (goal.at.rounds-requires c).Then-eq in
     let h : (c.args.turn - c.min-lead.result) % (c.loop-before.before + 1) ≤ 32768 = omega (arith, l.rest) in
-    record { room = c.rounds-first.ensures.room; low = omega (arith, l.low, mul-le-mul h c.args.self.now.fits.short) }
+    record { low = omega (arith, l.low, mul-le-mul h c.args.self.now.fits.short) }
 
 pub returns-then-eq : goal.returns-then-eq
 returns-then-eq c =
     let l = leaps (goal.at.returns-then-eq c).Then-eq in
     let w =
     turns_are (map cell_of c.args.self.now.cycle.now) _ c.args.turn (omega (arith, l.rest))
-    (turns_on (map cell_of c.args.self.now.cycle.now) _ _ l.walk c.rounds.ensures.is) in
-    record { is = w; room = c.rounds.ensures.room; low = far c.args.self.now.cycle.now c.args.turn c.requires c.args.self.now.fits.short w }
+    (turns_on (map cell_of c.args.self.now.cycle.now) _ _ l.walk (record { block = c.rounds.ensures.is.block; bits = c.rounds.ensures.is.bits })) in
+    record { is = w; low = far c.args.self.now.cycle.now c.args.turn c.requires c.args.self.now.fits.short w }
 
 pub loop-before-preserved : goal.loop-before-preserved
 loop-before-preserved c =
-    (c.rounds-s.ensures.room, turn_more (map cell_of c.args.self.now.cycle.now) c.min-lead.result c.loop-before.before c.loop-before.invariant.1 c.rounds-s.ensures.is)
+    turn_more (map cell_of c.args.self.now.cycle.now) c.min-lead.result c.loop-before.before c.loop-before.invariant c.rounds-s.ensures.is
 
 pub returns : goal.returns
 returns c =
-    let w = turns_are (map cell_of c.args.self.now.cycle.now) (c.min-lead.result + c.loop-before.before) c.args.turn (omega (arith, c.loop-before.invariant.0)) c.loop-before.invariant.1 in
-    record { is = w; room = c.loop-before.invariant.0; low = far c.args.self.now.cycle.now c.args.turn c.requires c.args.self.now.fits.short w }
+    let w = turns_are (map cell_of c.args.self.now.cycle.now) (c.min-lead.result + c.loop-before.before) c.args.turn (omega arith) c.loop-before.invariant in
+    record { is = w; low = far c.args.self.now.cycle.now c.args.turn c.requires c.args.self.now.fits.short w }

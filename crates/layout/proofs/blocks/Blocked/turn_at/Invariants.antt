@@ -1,4 +1,4 @@
-use Rattle.std.proofs.Common.{◌+◌, ◌*◌, ◌≤◌, map}
+use Rattle.std.proofs.Common.{◌+◌, map}
 use Rattle.plans.specs.Cells.{cell_of}
 use Rattle.layout.specs.Walk.{Walked, origin}
 use Rattle.layout.proofs.blocks.Blocked.turn_at.Given as goal
@@ -6,4 +6,4 @@ use Rattle.placement.specs.Line.{repeated}
 
 abbrev pub invariant-loop-before : goal.invariant-loop-before
 invariant-loop-before l =
-    (l.s.bits.0 ≤ 8 * l.self.block.bytes.0) × Walked l.self.block origin (repeated (l.lead + l.before) (map cell_of l.self.cycle.now)) l.s
+    Walked l.self.block origin (repeated (l.lead + l.before) (map cell_of l.self.cycle.now)) l.s

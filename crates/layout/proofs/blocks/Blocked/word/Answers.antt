@@ -13,12 +13,11 @@ use Rattle.placement.specs.Pack.{total}
 pub through-s-requires : goal.through-s-requires
 through-s-requires c =
     let s = c.args.self.now in
-    record { fits = in_blocks-take s.block s.cycle.now c.args.seat.slot s.fits; room = c.turn_at.ensures.room; low = omega (arith, c.turn_at.ensures.low, c.requires.slot, s.fits.short, length-take c.args.seat.slot s.cycle.now) }
+    record { fits = in_blocks-take s.block s.cycle.now c.args.seat.slot s.fits; low = omega (arith, c.turn_at.ensures.low, c.requires.slot, s.fits.short, length-take c.args.seat.slot s.cycle.now) }
 
 pub open_for-open-requires : goal.open_for-open-requires
 open_for-open-requires c =
     record {
-      room = c.through-s.ensures.room;
       within = within_at c.args.self.now.block c.args.self.now.cycle.now c.args.seat.slot c.requires.slot c.args.self.now.fits;
       low = omega (arith, c.through-s.ensures.near, c.turn_at.ensures.low, c.requires.slot, c.args.self.now.fits.short, length-take c.args.seat.slot c.args.self.now.cycle.now);
     }
