@@ -132,7 +132,7 @@ impl Blocked<'_> {
 
     // The state behind `n` repetitions of the cycle.
     fn rounds(&self, s: State, n: u64) -> State
-        requires low { s.block + n * length self.now.cycle.now ≤ 2 ^ 20 }
+        requires { s.block + n * length self.now.cycle.now ≤ 2 ^ 20 }
         ensures is { Walked self.now.block s (repeated n (map cell_of self.now.cycle.now)) result }
         ensures near { result.block ≤ s.block + n * length self.now.cycle.now }
     {

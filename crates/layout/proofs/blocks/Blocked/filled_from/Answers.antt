@@ -1,21 +1,10 @@
-use Rattle.std.proofs.Common.{◌+◌, ◌%◌, ◌<◌, ◌≤◌, ℕ, map, length, drop, sym, ap, ◌∙◌, mod-lt, arith, rules}
+use Rattle.std.proofs.Common.{◌+◌, ◌<◌, ◌≤◌, ℕ, map, drop, sym, ap, ◌∙◌, arith, rules}
 use Rattle.plans.specs.Cells.{blocks_of}
 use Rattle.plans.specs.Cells.{cell_of}
 use Rattle.placement.specs.Line.{repeated}
 use Rattle.placement.specs.Pack.{total}
-use Rattle.layout.proofs.Entries.{within_at}
 use Rattle.layout.proofs.Rounds.{fill_in, fill_over, fill_end}
 use Rattle.layout.proofs.blocks.Blocked.filled_from.Goals as goal
-
-pub add-more-requires : goal.add-more-requires
-add-more-requires c =
-    let s = c.args.self.now in
-    omega (
-      arith,
-      c.loop-i.invariant.0,
-      s.fits.small,
-      within_at s.block s.cycle.now (c.loop-i.i % length s.cycle.now) (mod-lt c.loop-i.i {m = length s.cycle.now} c.requires.some) s.fits,
-    )
 
 pub returns-then-gt : goal.returns-then-gt
 returns-then-gt c =

@@ -6,9 +6,7 @@ use Rattle.layout.proofs.blocks.Blocked.turn_at.Goals.{Then-eq}
 
 pub rounds-s-requires : goal.rounds-s-requires
 rounds-s-requires c =
-    record {
-      low = omega (arith, c.args.self.now.fits.short, far c.args.self.now.cycle.now (c.min-lead.result + c.loop-before.before) (omega arith) c.args.self.now.fits.short c.loop-before.invariant);
-    }
+    omega (arith, c.args.self.now.fits.short, far c.args.self.now.cycle.now (c.min-lead.result + c.loop-before.before) (omega arith) c.args.self.now.fits.short c.loop-before.invariant)
 
 leaps : (c : Then-eq)
     → Leap c.args.self.now.block c.args.self.now.cycle.now c.min-lead.result (c.args.turn - c.min-lead.result) (c.loop-before.before + 1) c.rounds-first.result c.rounds-s.result
@@ -30,7 +28,7 @@ pub rounds-requires : goal.rounds-requires
 rounds-requires c =
     let l = leaps (goal.at.rounds-requires c).Then-eq in
     let h : (c.args.turn - c.min-lead.result) % (c.loop-before.before + 1) ≤ 32768 = omega (arith, l.rest) in
-    record { low = omega (arith, l.low, mul-le-mul h c.args.self.now.fits.short) }
+    omega (arith, l.low, mul-le-mul h c.args.self.now.fits.short)
 
 pub returns-then-eq : goal.returns-then-eq
 returns-then-eq c =
@@ -44,7 +42,7 @@ pub loop-before-preserved : goal.loop-before-preserved
 loop-before-preserved c =
     turn_more (map cell_of c.args.self.now.cycle.now) c.min-lead.result c.loop-before.before c.loop-before.invariant c.rounds-s.ensures.is
 
-pub returns : goal.returns
-returns c =
+pub returns-clause-low : goal.returns-clause-low
+returns-clause-low c =
     let w = turns_are (map cell_of c.args.self.now.cycle.now) (c.min-lead.result + c.loop-before.before) c.args.turn (omega arith) c.loop-before.invariant in
-    record { is = w; low = far c.args.self.now.cycle.now c.args.turn c.requires c.args.self.now.fits.short w }
+    far c.args.self.now.cycle.now c.args.turn c.requires c.args.self.now.fits.short w

@@ -1,34 +1,13 @@
 use Rattle.std.proofs.Common.{◌≡◌, ℕ, ◌+◌, ◌*◌, map, length, get_or, drop, ap, ◌∙◌, arith}
-use lib.Arith.{digits_lt}
 use Rattle.std.proofs.lemmas.List.{length-take}
 use Rattle.plans.specs.Cells.{blocks_of, cell_of}
 use Rattle.layout.specs.Words.{word_in}
-use Rattle.layout.proofs.Entries.{none, within_at, in_blocks-take}
+use Rattle.layout.proofs.Entries.{none}
 use Rattle.layout.proofs.Rounds.{block_word_is, filled_fits}
 use Rattle.layout.proofs.blocks.Blocked.word.Goals as goal
 use Rattle.layout.proofs.blocks.Blocked.word.Goals.{After-filled_from-filled}
 use Rattle.placement.specs.Line.{repeated}
 use Rattle.placement.specs.Pack.{total}
-
-pub through-s-requires : goal.through-s-requires
-through-s-requires c =
-    let s = c.args.self.now in
-    record { fits = in_blocks-take s.block s.cycle.now c.args.seat.slot s.fits; low = omega (arith, c.turn_at.ensures.low, c.requires.slot, s.fits.short, length-take c.args.seat.slot s.cycle.now) }
-
-pub open_for-open-requires : goal.open_for-open-requires
-open_for-open-requires c =
-    record {
-      within = within_at c.args.self.now.block c.args.self.now.cycle.now c.args.seat.slot c.requires.slot c.args.self.now.fits;
-      low = omega (arith, c.through-s.ensures.near, c.turn_at.ensures.low, c.requires.slot, c.args.self.now.fits.short, length-take c.args.seat.slot c.args.self.now.cycle.now);
-    }
-
-pub filled_from-filled-requires : goal.filled_from-filled-requires
-filled_from-filled-requires c =
-    record {
-      some = omega (arith, c.requires.slot);
-      room = omega (arith, c.add.ensures, c.open_for-open.ensures.fits);
-      inside = omega (arith, digits_lt c.requires.turn c.requires.slot);
-    }
 
 -- the bits of the block in the end, by its bits before and with the value
 filled : (c : After-filled_from-filled)
@@ -53,14 +32,8 @@ block_word-requires c =
       low = omega (arith, c.open_for-open.ensures.near, c.through-s.ensures.near, c.turn_at.ensures.low, c.requires.slot, s.fits.short, length-take c.args.seat.slot s.cycle.now);
     }
 
-pub returns : goal.returns
-returns c =
-    record {
-      is = block_word_is c.args.self.now.cycle.now c.args.self.now.count c.args.seat.turn c.args.seat.slot c.filled_from-filled.result.0 (word_in c.block_word.result)
-          c.requires.turn c.requires.slot c.turn_at.ensures.is c.through-s.ensures.is c.open_for-open.ensures.is
-          (filled (goal.at.returns c).After-filled_from-filled) c.block_word.ensures.is;
-      near = (
-        omega (arith, c.block_word.ensures.near.0, c.open_for-open.ensures.near, c.through-s.ensures.near, c.turn_at.ensures.low, c.requires.slot, c.args.self.now.fits.short, length-take c.args.seat.slot c.args.self.now.cycle.now),
-        c.block_word.ensures.near.1,
-      );
-    }
+pub returns-clause-is : goal.returns-clause-is
+returns-clause-is c =
+    block_word_is c.args.self.now.cycle.now c.args.self.now.count c.args.seat.turn c.args.seat.slot c.filled_from-filled.result.0 (word_in c.block_word.result)
+    c.requires.turn c.requires.slot c.turn_at.ensures.is c.through-s.ensures.is c.open_for-open.ensures.is
+    (filled (goal.at.returns-clause-is c).After-filled_from-filled) c.block_word.ensures.is

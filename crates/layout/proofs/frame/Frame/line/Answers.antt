@@ -3,9 +3,6 @@ use Rattle.layout.specs.Parts.{view_of}
 use Rattle.layout.proofs.Grouping.{line_is}
 use Rattle.layout.proofs.frame.Frame.line.Goals as goal
 
-pub returns : goal.returns
-returns c =
-    record {
-      is = c.bytes.ensures.is ∙ line_is (view_of c.args.self.now.parts) c.group_at.result c.args.g c.group_at.ensures;
-      near = c.bytes.ensures.near;
-    }
+pub returns-clause-is : goal.returns-clause-is
+returns-clause-is c =
+    c.bytes.ensures.is ∙ line_is (view_of c.args.self.now.parts) c.group_at.result c.args.g c.group_at.ensures

@@ -1,6 +1,5 @@
-use Rattle.std.proofs.Common.{◌≡◌, ℕ, ◌-◌, ◌/◌, ◌%◌, ◌<◌, List, get_or, Ok, Result, sym, ap, ◌∙◌, subst, arith}
-use Rattle.fault.specs.declared.fault.Fault.{Fault}
-use Rattle.placement.specs.Word.{Word, Whole, spot}
+use Rattle.std.proofs.Common.{◌≡◌, ◌<◌, List, get_or, sym, ap, ◌∙◌, subst, arith}
+use Rattle.placement.specs.Word.{Word, Whole}
 use Rattle.placement.specs.Place.{depth_of, word_of}
 use Rattle.placement.proofs.Words.{words_stand}
 use Rattle.layout.specs.Layouts.{shown}
@@ -9,7 +8,7 @@ use Rattle.layout.specs.declared.layout.Layout.{Layout}
 use Rattle.plans.specs.Entries.{no_entry}
 use Rattle.plans.specs.Views.{plan_of}
 use Rattle.plans.specs.declared.entry.Entry.{Entry}
-use Rattle.layout.proofs.Located.{found, valid, deep, sound, locate_found}
+use Rattle.layout.proofs.Located.{found, valid, deep, sound}
 use Rattle.layout.proofs.layout.Layout.locate.Goals as goal
 use Rattle.layout.proofs.layout.Layout.locate.Goals.{After-word}
 
@@ -45,15 +44,3 @@ bit_place-number-requires c =
       );
       small = c.word.ensures.small;
     }
-
-pub returns : goal.returns
-returns c =
-    let v = shown c.args.self.now in
-    let n = c.in_ok-found.found.position in
-    let w = word (goal.at.returns c).After-word in
-    pair (c.bit_place-number.ensures.byte ∙ ap (λ (w : Word). spot w c.args.bit / 8) w) (c.bit_place-number.ensures.bit ∙ ap (λ (w : Word). 7 - spot w c.args.bit % 8) w)
-    ∙ sym (locate_found v c.args.place n c.args.bit (sym c.in_ok-found.ensures.position)
-    (omega (arith, c.if-bit-listed.false, ap (λ (es : List Entry). (get_or es n no_entry).depth.0) c.listed.ensures)))
-  where
-    pair : {a b x y : ℕ} → a ≡ x → b ≡ y → ◌≡◌ {A = Result (ℕ × ℕ) Fault} (Ok (a, b)) (Ok (x, y))
-    pair p q = cc

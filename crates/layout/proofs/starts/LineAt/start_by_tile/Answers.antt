@@ -1,9 +1,9 @@
-use Rattle.std.proofs.Common.{ℕ, ◌+◌, ◌*◌, length, mul-le-mul, arith}
+use Rattle.std.proofs.Common.{◌*◌, length, mul-le-mul, arith}
 use Rattle.placement.specs.Grid.{by_tile, tile_of}
 use Rattle.placement.specs.Place.{grid}
 use Rattle.layout.specs.Layouts.{shown}
 use Rattle.plans.specs.Views.{plan_of, strips_by}
-use Rattle.layout.proofs.Starting.{tiles_below, groups_below, three}
+use Rattle.layout.proofs.Starting.{tiles_below, groups_below}
 use Rattle.layout.proofs.starts.LineAt.start_by_tile.Goals as goal
 
 pub overflow_cast-result : goal.overflow_cast-result
@@ -49,17 +49,14 @@ overflow_add-result-2 c =
       );
     }
 
-pub returns : goal.returns
-returns c =
+pub returns-clause-near : goal.returns-clause-near
+returns-clause-near c =
     let s = groups_below (λ h. (grid (plan_of (shown c.args.self.now.layout.now))).tiles * tile_of by_tile (grid (plan_of (shown c.args.self.now.layout.now))) h) c.args.self.now.group
     (length (strips_by c.args.self.now.layout.now.frame.parts.interleave (shown c.args.self.now.layout.now))) c.args.self.now.inside.group c.requires in
-    record {
-      is = three (λ (a b d : ℕ). a + (c.args.self.now.tile * b + c.args.self.now.row * d)) c.tiles_before-before.ensures c.tile_alone-each.ensures.is c.line-line.ensures.is;
-      near = omega (
-        arith,
-        c.tiles_before-before.ensures,
-        s,
-        tiles_below c.args.self.now.tile _ c.tile_alone-each.result.0 _ c.args.self.now.inside.tile c.tile_alone-each.ensures.is (omega (arith, s)),
-        mul-le-mul c.args.self.now.inside.low c.line-line.ensures.near,
-      );
-    }
+    omega (
+      arith,
+      c.tiles_before-before.ensures,
+      s,
+      tiles_below c.args.self.now.tile _ c.tile_alone-each.result.0 _ c.args.self.now.inside.tile c.tile_alone-each.ensures.is (omega (arith, s)),
+      mul-le-mul c.args.self.now.inside.low c.line-line.ensures.near,
+    )
