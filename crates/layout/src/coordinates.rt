@@ -62,11 +62,11 @@ impl<'a> Found<'a> {
         occurrence(group.line.cycle, self.place.index, k)
     }
 
-    fn coordinates_in(&self, number: usize, group: Group<'a>) -> Coordinates<'a>
-        requires number { number ≡ home (plan_of (shown self.now.layout.now)) self.now.place.index }
-        requires group { Grouped (shown self.now.layout.now) self.now.place group }
+    fn coordinates(&self) -> Coordinates<'a>
         ensures { Stands (shown self.now.layout.now) self.now.place result }
     {
+        let number = self.number();
+        let group = self.layout.frame.group_at(number);
         let place = self.place;
         let often = self.often(group);
         let wide = group.line.count * often;
@@ -83,14 +83,6 @@ impl<'a> Found<'a> {
                 slot,
             },
         }
-    }
-
-    fn coordinates(&self) -> Coordinates<'a>
-        ensures { Stands (shown self.now.layout.now) self.now.place result }
-    {
-        let number = self.number();
-        let group = self.layout.frame.group_at(number);
-        self.coordinates_in(number, group)
     }
 
     // The word of the place.
