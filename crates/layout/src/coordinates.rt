@@ -8,7 +8,7 @@ ghost use Rattle.plans.specs.Entries.{position_with};
 ghost use Rattle.plans.specs.Views.{plan_of};
 
 use crate::find::{occurrence, occurrences};
-use crate::group::Group;
+use crate::group::{Group, GroupAt};
 use crate::layout::Layout;
 use crate::seat::Seat;
 use crate::starts::LineAt;
@@ -66,7 +66,11 @@ impl<'a> Found<'a> {
         ensures { Stands (shown self.now.layout.now) self.now.place result }
     {
         let number = self.number();
-        let group = self.layout.frame.group_at(number);
+        let group = GroupAt {
+            frame: &self.layout.frame,
+            number,
+        }
+        .group();
         let place = self.place;
         let often = self.often(group);
         let wide = group.line.count * often;

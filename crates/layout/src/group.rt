@@ -1,6 +1,7 @@
 // The entries that share lines.
 ghost use Rattle.std.specs.Prelude.{◌≡◌, ◌<◌, ◌≤◌, map, length, slice_index_or};
 ghost use Rattle.choices.specs.declared.choice.Interleave.TheVariants.{Mixed};
+ghost use Rattle.layout.specs.Parts.{view_of};
 ghost use Rattle.placement.specs.Place.{no_strip, strip};
 ghost use Rattle.plans.specs.Fit.{Fitting};
 ghost use Rattle.plans.specs.Views.{alone as alone_in, together, tile_width, tile_height, strips_by, strip_at, plan_of};
@@ -19,9 +20,16 @@ pub(crate) struct Group<'a> {
     ghost few: { rows ≤ 32768 },
 }
 
+// A group of a frame, by its number.
+#[derive(Clone, Copy)]
+pub(crate) struct GroupAt<'a> {
+    pub frame: &'a Frame,
+    pub number: usize,
+    ghost inside: { number < length (strips_by frame.now.parts.interleave (view_of frame.now.parts)) },
+}
+
 impl Frame {
     ghost use Rattle.layout.specs.Groups.{Draws};
-    ghost use Rattle.layout.specs.Parts.{view_of};
 
     pub(crate) fn group_count(&self) -> usize
         ensures { result ≡ length (strips_by self.now.parts.interleave (view_of self.now.parts)) }
@@ -91,20 +99,26 @@ impl Frame {
             )
         }
     }
+}
 
-    pub(crate) fn group_at(&self, g: usize) -> Group
-        requires { g < length (strips_by self.now.parts.interleave (view_of self.now.parts)) }
-        ensures { Draws (view_of self.now.parts) result (strip (plan_of (view_of self.now.parts)) g) }
+impl<'a> GroupAt<'a> {
+    ghost use Rattle.layout.specs.Groups.{Draws};
+
+    pub(crate) fn group(&self) -> Group<'a>
+        ensures { Draws (view_of self.now.frame.now.parts) result (strip (plan_of (view_of self.now.frame.now.parts)) self.now.number) }
     {
-        let width = u64::from(self.parts.width) / self.parts.tile_columns;
-        let height = u64::from(self.parts.height) / self.parts.tile_rows;
-        match self.parts.interleave {
-            Interleave::Component | Interleave::Row | Interleave::TileComponent => self.alone(g),
-            Interleave::Pixel => self.group(self.listed(), width, height),
-            Interleave::Mixed => self.mixed(g, width, height),
+        let frame = self.frame;
+        let width = u64::from(frame.parts.width) / frame.parts.tile_columns;
+        let height = u64::from(frame.parts.height) / frame.parts.tile_rows;
+        match frame.parts.interleave {
+            Interleave::Component | Interleave::Row | Interleave::TileComponent => {
+                frame.alone(self.number)
+            }
+            Interleave::Pixel => frame.group(frame.listed(), width, height),
+            Interleave::Mixed => frame.mixed(self.number, width, height),
             Interleave::MultiY => {
-                let pairs = width / self.parts.sampling.across();
-                self.group(self.listed(), pairs, height)
+                let pairs = width / frame.parts.sampling.across();
+                frame.group(frame.listed(), pairs, height)
             }
         }
     }

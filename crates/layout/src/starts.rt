@@ -6,6 +6,7 @@ ghost use Rattle.layout.specs.Layouts.{shown};
 ghost use Rattle.layout.specs.Starting.{InTile};
 ghost use Rattle.plans.specs.Views.{plan_of};
 
+use crate::group::GroupAt;
 use crate::layout::Layout;
 use crate::order::Order;
 use plans::Bytes;
@@ -20,17 +21,27 @@ pub(crate) struct LineAt<'a> {
     ghost inside: { InTile (shown layout.now) tile group row },
 }
 
-impl LineAt<'_> {
+impl<'a> LineAt<'a> {
+    fn group(&self) -> GroupAt<'a>
+        ensures frame { result.frame.now ≡ self.now.layout.now.frame }
+        ensures number { result.number ≡ self.now.group }
+    {
+        GroupAt {
+            frame: &self.layout.frame,
+            number: self.group,
+        }
+    }
+
     // The lines of one group precede the next group's.
     fn start_by_group(&self) -> Bytes
         requires { frame_of by_group (grid (plan_of (shown self.now.layout.now))) ≤ 4294967295 }
         ensures is { result.0 ≡ start_of by_group (grid (plan_of (shown self.now.layout.now))) self.now.tile self.now.group self.now.row }
         ensures near { result.0 ≤ 2 ^ 60 }
     {
-        let frame = &self.layout.frame;
-        let each = frame.tile_by_group();
-        let before = frame.areas_before(self.group);
-        let line = frame.line(self.group);
+        let each = self.layout.frame.tile_by_group();
+        let group = self.group();
+        let before = group.earlier().areas();
+        let line = group.line();
         Bytes(self.tile * each.0 + (before.0 + self.row * line.0))
     }
 
@@ -42,8 +53,8 @@ impl LineAt<'_> {
     {
         let frame = &self.layout.frame;
         let each = frame.tile_by_row();
-        let row = frame.lines_before(frame.group_count());
-        let before = frame.lines_before(self.group);
+        let row = frame.groups().lines();
+        let before = self.group().earlier().lines();
         Bytes(self.tile * each.0 + (self.row * row.0 + before.0))
     }
 
@@ -53,10 +64,10 @@ impl LineAt<'_> {
         ensures is { result.0 ≡ start_of by_tile (grid (plan_of (shown self.now.layout.now))) self.now.tile self.now.group self.now.row }
         ensures near { result.0 ≤ 2 ^ 60 }
     {
-        let frame = &self.layout.frame;
-        let before = frame.tiles_before(self.group);
-        let each = frame.tile_alone(self.group);
-        let line = frame.line(self.group);
+        let group = self.group();
+        let before = group.earlier().tiles();
+        let each = group.tile_alone();
+        let line = group.line();
         Bytes(before as u64 + (self.tile * each.0 + self.row * line.0))
     }
 

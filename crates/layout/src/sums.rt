@@ -6,6 +6,7 @@ ghost use Rattle.layout.specs.Parts.{view_of};
 ghost use Rattle.plans.specs.Views.{strips_by, plan_of, order_of, size_of};
 
 use crate::frame::Frame;
+use crate::group::GroupAt;
 use crate::line::up_to;
 use crate::order::Order;
 use plans::Bytes;
@@ -25,42 +26,117 @@ fn sum_below<F: Fn(usize) -> Bytes>(g: usize, each: F) -> Bytes
     Bytes(sum)
 }
 
-impl Frame {
+// The first groups of a frame, so many.
+#[derive(Clone, Copy)]
+pub(crate) struct Groups<'a> {
+    pub frame: &'a Frame,
+    pub count: usize,
+    ghost inside: { count ≤ length (strips_by frame.now.parts.interleave (view_of frame.now.parts)) },
+}
+
+impl<'a> GroupAt<'a> {
     // The bytes of a line of the group.
-    pub(crate) fn line(&self, g: usize) -> Bytes
-        requires { g < length (strips_by self.now.parts.interleave (view_of self.now.parts)) }
-        ensures is { result.0 ≡ line_in (grid (plan_of (view_of self.now.parts))) g }
+    pub(crate) fn line(&self) -> Bytes
+        ensures is { result.0 ≡ line_in (grid (plan_of (view_of self.now.frame.now.parts))) self.now.number }
         ensures near { result.0 ≤ 2 ^ 33 }
     {
-        self.group_at(g).line.bytes()
+        self.group().line.bytes()
     }
 
     // The bytes of the group's lines in a tile.
-    fn area(&self, g: usize) -> Bytes
-        requires { g < length (strips_by self.now.parts.interleave (view_of self.now.parts)) }
-        ensures is { result.0 ≡ area_in (grid (plan_of (view_of self.now.parts))) g }
+    fn area(&self) -> Bytes
+        ensures is { result.0 ≡ area_in (grid (plan_of (view_of self.now.frame.now.parts))) self.now.number }
         ensures near { result.0 ≤ 2 ^ 48 }
     {
-        let group = self.group_at(g);
+        let group = self.group();
         Bytes(group.rows * group.line.bytes().0)
     }
 
-    // The bytes of a tile's lines of the groups before g.
-    pub(crate) fn areas_before(&self, g: usize) -> Bytes
-        requires { g ≤ length (strips_by self.now.parts.interleave (view_of self.now.parts)) }
-        ensures is { result.0 ≡ summed (area_in (grid (plan_of (view_of self.now.parts)))) g }
-        ensures near { result.0 ≤ 2 ^ 52 }
+    // The bytes of a tile that holds one group alone.
+    pub(crate) fn tile_alone(&self) -> Bytes
+        ensures is { result.0 ≡ tile_of by_tile (grid (plan_of (view_of self.now.frame.now.parts))) self.now.number }
+        ensures near { result.0 ≤ 2 ^ 53 }
     {
-        sum_below(g, |h| self.area(h))
+        up_to(self.area(), self.frame.parts.packing.tile_align)
     }
 
-    // The bytes of one line of each group before g.
-    pub(crate) fn lines_before(&self, g: usize) -> Bytes
-        requires { g ≤ length (strips_by self.now.parts.interleave (view_of self.now.parts)) }
-        ensures is { result.0 ≡ summed (line_in (grid (plan_of (view_of self.now.parts)))) g }
+    // The bytes of a tile; in interleave 4, of a tile of the group.
+    pub(crate) fn tile(&self) -> Bytes
+        ensures { result.0 ≡ tile_of (order_of self.now.frame.now.parts.interleave) (grid (plan_of (view_of self.now.frame.now.parts))) self.now.number }
+    {
+        match self.frame.order() {
+            Order::ByGroup => self.frame.tile_by_group(),
+            Order::ByRow => self.frame.tile_by_row(),
+            Order::ByTile => self.tile_alone(),
+        }
+    }
+
+    // The groups before it.
+    pub(crate) fn earlier(&self) -> Groups<'a>
+        ensures frame { result.frame.now ≡ self.now.frame.now }
+        ensures count { result.count ≡ self.now.number }
+    {
+        Groups {
+            frame: self.frame,
+            count: self.number,
+        }
+    }
+}
+
+impl<'a> Groups<'a> {
+    fn at(&self, number: usize) -> GroupAt<'a>
+        requires { number < self.now.count }
+        ensures frame { result.frame.now ≡ self.now.frame.now }
+        ensures number { result.number ≡ number }
+    {
+        GroupAt {
+            frame: self.frame,
+            number,
+        }
+    }
+
+    // The bytes of a tile's lines of these groups.
+    pub(crate) fn areas(&self) -> Bytes
+        ensures is { result.0 ≡ summed (area_in (grid (plan_of (view_of self.now.frame.now.parts)))) self.now.count }
+        ensures near { result.0 ≤ 2 ^ 52 }
+    {
+        sum_below(self.count, |h| self.at(h).area())
+    }
+
+    // The bytes of one line of each of these groups.
+    pub(crate) fn lines(&self) -> Bytes
+        ensures is { result.0 ≡ summed (line_in (grid (plan_of (view_of self.now.frame.now.parts)))) self.now.count }
         ensures near { result.0 ≤ 2 ^ 37 }
     {
-        sum_below(g, |h| self.line(h))
+        sum_below(self.count, |h| self.at(h).line())
+    }
+
+    // The bytes of one tile of each of these groups, where each tile holds one group alone.
+    fn tiles_alone(&self) -> Bytes
+        ensures is { result.0 ≡ summed (tile_of by_tile (grid (plan_of (view_of self.now.frame.now.parts)))) self.now.count }
+        ensures near { result.0 ≤ 2 ^ 57 }
+    {
+        sum_below(self.count, |h| self.at(h).tile_alone())
+    }
+
+    // The bytes of all such tiles, which may be more than 64 bits count.
+    pub(crate) fn tiles(&self) -> u128
+        ensures { result ≡ summed (λ h. (grid (plan_of (view_of self.now.frame.now.parts))).tiles * tile_of by_tile (grid (plan_of (view_of self.now.frame.now.parts))) h) self.now.count }
+    {
+        self.frame.all_tiles(self.tiles_alone())
+    }
+}
+
+impl Frame {
+    // All groups.
+    pub(crate) fn groups(&self) -> Groups
+        ensures frame { result.frame.now ≡ self.now }
+        ensures count { result.count ≡ length (strips_by self.now.parts.interleave (view_of self.now.parts)) }
+    {
+        Groups {
+            frame: self,
+            count: self.group_count(),
+        }
     }
 
     // The lines in a tile of the first group, or 0 where there is none.
@@ -71,7 +147,11 @@ impl Frame {
         if self.group_count() == 0 {
             0
         } else {
-            self.group_at(0).rows
+            let first = GroupAt {
+                frame: self,
+                number: 0,
+            };
+            first.group().rows
         }
     }
 
@@ -80,8 +160,7 @@ impl Frame {
         ensures is { result.0 ≡ tile_of by_group (grid (plan_of (view_of self.now.parts))) 0 }
         ensures near { result.0 ≤ 2 ^ 53 }
     {
-        let groups = self.group_count();
-        up_to(self.areas_before(groups), self.parts.packing.tile_align)
+        up_to(self.groups().areas(), self.parts.packing.tile_align)
     }
 
     // The bytes of a tile in which each row gives a line of each group.
@@ -90,29 +169,8 @@ impl Frame {
         ensures near { result.0 ≤ 2 ^ 53 }
     {
         let rows = self.first_rows();
-        let each = self.lines_before(self.group_count());
+        let each = self.groups().lines();
         up_to(Bytes(rows * each.0), self.parts.packing.tile_align)
-    }
-
-    // The bytes of a tile that holds one group alone.
-    pub(crate) fn tile_alone(&self, g: usize) -> Bytes
-        requires { g < length (strips_by self.now.parts.interleave (view_of self.now.parts)) }
-        ensures is { result.0 ≡ tile_of by_tile (grid (plan_of (view_of self.now.parts))) g }
-        ensures near { result.0 ≤ 2 ^ 53 }
-    {
-        up_to(self.area(g), self.parts.packing.tile_align)
-    }
-
-    // The bytes of a tile; in interleave 4, of a tile of the group.
-    pub(crate) fn tile(&self, g: usize) -> Bytes
-        requires { g < length (strips_by self.now.parts.interleave (view_of self.now.parts)) }
-        ensures { result.0 ≡ tile_of (order_of self.now.parts.interleave) (grid (plan_of (view_of self.now.parts))) g }
-    {
-        match self.order() {
-            Order::ByGroup => self.tile_by_group(),
-            Order::ByRow => self.tile_by_row(),
-            Order::ByTile => self.tile_alone(g),
-        }
     }
 
     fn tile_count(&self) -> u64
@@ -131,23 +189,6 @@ impl Frame {
         self.tile_count() as u128 * each.0 as u128
     }
 
-    // The bytes of one tile of each group before g, where each tile holds one group alone.
-    fn alone_before(&self, g: usize) -> Bytes
-        requires { g ≤ length (strips_by self.now.parts.interleave (view_of self.now.parts)) }
-        ensures is { result.0 ≡ summed (tile_of by_tile (grid (plan_of (view_of self.now.parts)))) g }
-        ensures near { result.0 ≤ 2 ^ 57 }
-    {
-        sum_below(g, |h| self.tile_alone(h))
-    }
-
-    // The bytes of all such tiles, which may be more than 64 bits count.
-    pub(crate) fn tiles_before(&self, g: usize) -> u128
-        requires { g ≤ length (strips_by self.now.parts.interleave (view_of self.now.parts)) }
-        ensures { result ≡ summed (λ h. (grid (plan_of (view_of self.now.parts))).tiles * tile_of by_tile (grid (plan_of (view_of self.now.parts))) h) g }
-    {
-        self.all_tiles(self.alone_before(g))
-    }
-
     // The bytes of a frame, which may be more than 64 bits count.
     pub(crate) fn frame_bytes(&self) -> u128
         ensures { result ≡ size_of (view_of self.now.parts) }
@@ -155,7 +196,7 @@ impl Frame {
         match self.order() {
             Order::ByGroup => self.all_tiles(self.tile_by_group()),
             Order::ByRow => self.all_tiles(self.tile_by_row()),
-            Order::ByTile => self.tiles_before(self.group_count()),
+            Order::ByTile => self.groups().tiles(),
         }
     }
 }

@@ -4,6 +4,7 @@ ghost use Rattle.layout.specs.Layouts.{shown, line_size, tile_size};
 ghost use Rattle.plans.specs.Views.{size_of, strip_at};
 
 use super::Layout;
+use crate::group::GroupAt;
 use plans::Entry;
 
 impl Layout {
@@ -48,15 +49,23 @@ impl Layout {
     pub fn line_size(&self, position: usize) -> Option<u64>
         ensures { result ≡ line_size (shown self.now) position }
     {
-        let group = self.group_of(position)?;
-        Some(self.frame.line(group).0)
+        let number = self.group_of(position)?;
+        let group = GroupAt {
+            frame: &self.frame,
+            number,
+        };
+        Some(group.line().0)
     }
 
     // The bytes of a tile that holds the entry at a position of the list; in interleave 4, of a tile of that entry.
     pub fn tile_size(&self, position: usize) -> Option<u64>
         ensures { result ≡ tile_size (shown self.now) position }
     {
-        let group = self.group_of(position)?;
-        Some(self.frame.tile(group).0)
+        let number = self.group_of(position)?;
+        let group = GroupAt {
+            frame: &self.frame,
+            number,
+        };
+        Some(group.tile().0)
     }
 }

@@ -77,12 +77,7 @@ fn unsettled(boxes: &Boxes, entry: &ListedEntry) -> Entry
 }
 
 // The entries of the list, each with its grid; the rest of the table stays blank.
-fn table_of(
-    boxes: &Boxes,
-    entries: &[ListedEntry],
-    sampling: Sampling,
-    sides: Sides,
-) -> [Entry; 16]
+fn table_of(boxes: &Boxes, entries: &[ListedEntry], sampling: Sampling, sides: Sides) -> [Entry; 16]
     requires { length entries.now ≤ 16 }
     ensures { take (length entries.now) result ≡ map (entry_for (type_of boxes.now) sampling sides.width sides.height) entries.now }
 {

@@ -17,13 +17,13 @@ tile_small r h n x w m a b c d e f =
 pub overflow_add-result : goal.overflow_add-result
 overflow_add-result c =
     let v = shown c.args.self.now.layout.now in
-    let g = subst (λ (n : ℕ). Draws v c.group_at-group.result (strip (plan_of v) n)) c.number-number.ensures c.group_at-group.ensures in
-    let w = wide_is v c.args.self.now.place c.group_at-group.result g c.often-often.result c.often-often.ensures.is in
-    let h = rows_is v c.args.self.now.place c.group_at-group.result g in
+    let g = subst (λ (n : ℕ). Draws v c.group-group.result (strip (plan_of v) n)) c.number-number.ensures c.group-group.ensures in
+    let w = wide_is v c.args.self.now.place c.group-group.result g c.often-often.result c.often-often.ensures.is in
+    let h = rows_is v c.args.self.now.place c.group-group.result g in
     record {
       fits = omega (
         arith,
-        tile_small c.args.self.now.place.row c.group_at-group.result.rows v.tile_rows c.args.self.now.place.column (c.group_at-group.result.line.count * c.often-often.result) v.tile_columns
+        tile_small c.args.self.now.place.row c.group-group.result.rows v.tile_rows c.args.self.now.place.column (c.group-group.result.line.count * c.often-often.result) v.tile_columns
             (omega (arith, h, high_pos (plan_of v) c.args.self.now.place c.args.self.now.valid)) (omega (arith, w, wide_pos (plan_of v) c.args.self.now.place c.args.self.now.valid))
             (subst (λ (x : ℕ). c.args.self.now.place.row < v.tile_rows * x) (sym h) c.args.self.now.valid.row) (subst (λ (x : ℕ). c.args.self.now.place.column < v.tile_columns * x) (sym w) c.args.self.now.valid.column)
             c.args.self.now.layout.now.frame.facts.down.1 c.args.self.now.layout.now.frame.facts.across.1,

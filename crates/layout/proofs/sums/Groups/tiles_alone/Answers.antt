@@ -1,5 +1,5 @@
 use Rattle.std.proofs.Common.{◌^◌, arith, rules}
-use Rattle.layout.proofs.frame.Frame.alone_before.Goals as goal
+use Rattle.layout.proofs.sums.Groups.tiles_alone.Goals as goal
 
 pub returns-clause-near : goal.returns-clause-near
 returns-clause-near c = omega (arith, c.sum_below.ensures.near (2 ^ 53) (λ h r l p. search rules))
