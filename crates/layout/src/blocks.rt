@@ -71,7 +71,7 @@ impl Blocked<'_> {
         ensures fits { result.bits.0 + depth.0 ≤ 8 * self.now.block.bytes.0 }
         ensures near { result.block ≤ s.block + 1 }
     {
-        if s.bits + depth <= bits_of(self.block.bytes) {
+        if s.bits.0 + depth.0 <= bits_of(self.block.bytes).0 {
             s
         } else {
             State {
@@ -93,11 +93,10 @@ impl Blocked<'_> {
         let mut filled = start;
         for i in from..self.count * each {
             let depth = self.cycle[(i % each) as usize].depth;
-            let more = filled + depth;
-            if more > bits_of(self.block.bytes) {
+            if filled.0 + depth.0 > bits_of(self.block.bytes).0 {
                 return filled;
             }
-            filled = more;
+            filled = Bits(filled.0 + depth.0);
         }
         filled
     }
@@ -112,7 +111,7 @@ impl Blocked<'_> {
         let open = self.open_for(s, entry.depth);
         State {
             block: open.block,
-            bits: open.bits + entry.depth,
+            bits: Bits(open.bits.0 + entry.depth.0),
         }
     }
 
@@ -183,7 +182,7 @@ impl Blocked<'_> {
         let s = self.through(self.turn_at(seat.turn), &self.cycle[..seat.slot]);
         let open = self.open_for(s, depth);
         let behind = seat.turn * self.cycle.len() as u64 + seat.slot as u64 + 1;
-        let filled = self.filled_from(open.bits + depth, behind);
+        let filled = self.filled_from(Bits(open.bits.0 + depth.0), behind);
         block_word(self.block, open.block, open.bits, filled, depth)
     }
 

@@ -41,7 +41,7 @@ fn word_after(little: bool, free: Bits, e: Entry) -> Word
 {
     if e.align == Bytes(0) {
         let first = whole_bytes(free);
-        let stop = free + e.depth;
+        let stop = Bits(free.0 + e.depth.0);
         let end = bytes_for(stop);
         Word {
             first,
@@ -69,9 +69,9 @@ fn free_after(free: Bits, e: Entry) -> Bits
     ensures near { result.0 ≤ free.0 + 71 }
 {
     if e.align == Bytes(0) {
-        free + e.depth
+        Bits(free.0 + e.depth.0)
     } else {
-        bits_of(bytes_for(free) + e.align)
+        bits_of(Bytes(bytes_for(free).0 + e.align.0))
     }
 }
 

@@ -23,7 +23,7 @@ impl Word {
         ensures { word_in result ≡ moved by.0 (word_in self) }
     {
         Word {
-            first: by + self.first,
+            first: Bytes(by.0 + self.first.0),
             ..self
         }
     }

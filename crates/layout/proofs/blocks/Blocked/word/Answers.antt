@@ -9,22 +9,12 @@ use Rattle.layout.proofs.blocks.Blocked.word.Goals.{After-filled_from-filled}
 use Rattle.placement.specs.Line.{repeated}
 use Rattle.placement.specs.Pack.{total}
 
--- the bits of the block in the end, by its bits before and with the value
-filled : (c : After-filled_from-filled)
-    → c.filled_from-filled.result.0
-    ≡ total (blocks_of c.args.self.now.block) (c.open_for-open.result.bits.0 + (get_or c.args.self.now.cycle.now c.args.seat.slot none).depth.0)
-    (drop (c.args.seat.turn * length c.args.self.now.cycle.now + c.args.seat.slot + 1) (repeated c.args.self.now.count (map cell_of c.args.self.now.cycle.now)))
-filled c =
-    let s = c.args.self.now in
-    c.filled_from-filled.ensures.is
-    ∙ ap (λ (o : ℕ). total (blocks_of s.block) o (drop (c.args.seat.turn * length s.cycle.now + c.args.seat.slot + 1) (repeated s.count (map cell_of s.cycle.now)))) c.add.ensures
-
 pub block_word-requires : goal.block_word-requires
 block_word-requires c =
     let s = c.args.self.now in
     let f =
     filled_fits (blocks_of s.block) (drop (c.args.seat.turn * length s.cycle.now + c.args.seat.slot + 1) (repeated s.count (map cell_of s.cycle.now))) _
-    c.filled_from-filled.result.0 c.open_for-open.ensures.fits (filled (goal.at.block_word-requires c).After-filled_from-filled) in
+    c.filled_from-filled.result.0 c.open_for-open.ensures.fits c.filled_from-filled.ensures.is in
     record {
       inside = f.0;
       room = f.1;
@@ -36,4 +26,4 @@ pub returns-clause-is : goal.returns-clause-is
 returns-clause-is c =
     block_word_is c.args.self.now.cycle.now c.args.self.now.count c.args.seat.turn c.args.seat.slot c.filled_from-filled.result.0 (word_in c.block_word.result)
     c.requires.turn c.requires.slot c.turn_at.ensures.is c.through-s.ensures.is c.open_for-open.ensures.is
-    (filled (goal.at.returns-clause-is c).After-filled_from-filled) c.block_word.ensures.is
+    c.filled_from-filled.ensures.is c.block_word.ensures.is
