@@ -11,7 +11,7 @@ pub(crate) struct Parts {
     pub packing: Packing,
     pub tile_columns: u64,
     pub tile_rows: u64,
-    // How many entries of the table are listed.
+    // The table is an array with a count: the library takes no heap, and one entry is lent to the function that settles its grid.
     pub count: usize,
     pub table: [Entry; 16],
 }

@@ -19,6 +19,7 @@ fn sum_below<F: Fn(usize) -> Bytes>(g: usize, each: F) -> Bytes
     ensures is { (f : ℕ → ℕ) → ((h : ℕ) (r : _) → h < g → F.post each h r → r.0 ≡ f h) → result.0 ≡ summed f g }
     ensures near { (m : ℕ) → ((h : ℕ) (r : _) → h < g → F.post each h r → r.0 ≤ m) → result.0 ≤ 16 * m }
 {
+    // By a loop: of a chain of `map` and `sum` the sum is proved, and its bound is not.
     let mut sum = 0;
     for h in 0..g {
         sum += each(h).0;

@@ -8,7 +8,8 @@ pub struct Entry {
     pub component_type: ComponentType,
     pub format: Format,
     pub depth: Bits,
-    // The bytes of the word that holds a value, or 0 where values are packed bit by bit, as in the box.
+    // The bytes of the word that holds a value, or 0 where values are packed bit by bit, as in the box: what
+    // rests on it tests it once, where a value gets its word.
     pub align: Bytes,
     pub columns: u64,
     pub rows: u64,

@@ -16,7 +16,8 @@ pub struct Packing {
     // Words of a component's own have their low byte first.
     pub little: bool,
     pub blocks: Blocks,
-    // The bytes of a pixel, and what lines and tiles are rounded up to; 0 where there is no such size, as in the box.
+    // The bytes of a pixel, and what lines and tiles are rounded up to; 0 where there is no such size, as in the box:
+    // a rounding by 0 is none, so that an Option would be taken apart to the same number.
     pub pixel: Bytes,
     pub row_align: Bytes,
     pub tile_align: Bytes,

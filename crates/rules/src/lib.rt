@@ -10,4 +10,5 @@ mod rules;
 mod tiles;
 mod typed;
 
+pub use refused::NO_ENTRY;
 pub use rules::check;

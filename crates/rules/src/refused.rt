@@ -5,8 +5,8 @@ ghost use Rattle.rules.specs.Rules.{broken, broken_at};
 
 use fault::{Fault, Layer, Reason};
 
-// The place of a fault for which no entry is to blame.
-const WHOLE: u64 = 255;
+// The place of a refusal by a rule, where no single entry is to blame.
+pub const NO_ENTRY: u64 = 255;
 
 // A rule on the configuration as a whole.
 pub(crate) fn require(kept: bool, reason: Reason) -> Result<(), Fault>
@@ -15,7 +15,7 @@ pub(crate) fn require(kept: bool, reason: Reason) -> Result<(), Fault>
     if kept {
         Ok(())
     } else {
-        Err(Layer::Configuration.refuses(reason, WHOLE))
+        Err(Layer::Configuration.refuses(reason, NO_ENTRY))
     }
 }
 

@@ -20,7 +20,7 @@ impl Typed<'_> {
         self.listing.entries()
     }
 
-    // Whether the entry's component has this type. Two types are the same if their numbers are.
+    // Whether the entry's component has this type. By number and not by `==`: `Other` can be made of a number that the standard has.
     pub(crate) fn is_of(&self, wanted: ComponentType, entry: &Entry) -> bool
         ensures { result ≡ is_of (types self.now) (type_number wanted) entry.now }
     {

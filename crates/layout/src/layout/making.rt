@@ -14,13 +14,10 @@ use crate::parts::Parts;
 use boxes::{Boxes, ComponentType, Entry as ListedEntry, Flags, Format, Listing, Sampling, Sizes};
 use fault::{Fault, Layer, Reason};
 use plans::{Bits, Blocks, Bytes, Entry, Packing};
-use rules::check;
+use rules::{NO_ENTRY, check};
 
 // The bytes of the largest frame.
 const LARGEST: u128 = 4_294_967_295;
-
-// The place of a fault that no single entry has.
-const WHOLE_LIST: u64 = 255;
 
 const BLANK: Entry = Entry {
     index: 0,
@@ -147,7 +144,7 @@ impl Layout {
         };
         let size = frame.frame_bytes();
         if size > LARGEST {
-            return Err(Layer::Configuration.refuses(Reason::FrameSize, WHOLE_LIST));
+            return Err(Layer::Configuration.refuses(Reason::FrameSize, NO_ENTRY));
         }
         Ok(Layout {
             frame,
