@@ -1,5 +1,6 @@
 pub mod Answering
 pub mod Comparing
 pub mod Counting
+pub mod Octetting
 pub mod Seams
 pub mod Turning

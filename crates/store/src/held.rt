@@ -1,7 +1,6 @@
 // All the bytes of a slice, to be read.
 ghost use Rattle.std.specs.Prelude.{◌≡◌};
 ghost use Rattle.store.specs.Access.{Octets};
-ghost use Rattle.store.specs.Bounds.{short_cut, octets_cut};
 ghost use Rattle.store.specs.Ends.{cut};
 
 use crate::bounds::out_of_bounds;
@@ -43,8 +42,4 @@ impl Source for Held<'_> {
             Err(out_of_bounds(at))
         }
     }
-
-    ghost short = { λ s. short_cut s.bytes.now };
-
-    ghost each = { λ s. octets_cut s.bytes.now s.octets };
 }

@@ -1,6 +1,5 @@
 // One after another.
 ghost use Rattle.std.specs.Prelude.{◌≡◌, [], ◌∷◌, ◌++◌, length};
-ghost use Rattle.store.specs.Bounds.{short_cut, octets_join};
 ghost use Rattle.store.specs.Ends.{past_limit, join_bytes};
 ghost use Rattle.store.specs.Unwritten.{along, both};
 
@@ -47,10 +46,6 @@ impl<A: Source, B: Source> Source for Join<A, B> {
             Err(out_of_bounds(at))
         }
     }
-
-    ghost short = { λ j. short_cut (A.Source.bytes j.first ++ B.Source.bytes j.second) };
-
-    ghost each = { λ j. octets_join (A.Source.bytes j.first) (B.Source.bytes j.second) (A.Source.each j.first) (B.Source.each j.second) };
 }
 
 impl<A: Store, B: Store> Store for Join<A, B> {

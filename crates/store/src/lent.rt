@@ -17,10 +17,6 @@ impl<S: Source> Source for &S {
     fn read(&self, at: u64) -> Result<u8, Fault> {
         (**self).read(at)
     }
-
-    ghost short = { λ r. S.Source.short r.now };
-
-    ghost each = { λ r. S.Source.each r.now };
 }
 
 impl<S: Source> Source for &mut S {
@@ -33,10 +29,6 @@ impl<S: Source> Source for &mut S {
     fn read(&self, at: u64) -> Result<u8, Fault> {
         (**self).read(at)
     }
-
-    ghost short = { λ r. S.Source.short r.now };
-
-    ghost each = { λ r. S.Source.each r.now };
 }
 
 impl<S: Store> Store for &mut S {

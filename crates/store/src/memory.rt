@@ -1,8 +1,6 @@
 // The whole of a buffer, to be read and written. It stands beside `Held` as IterMut beside Iter: one borrow is exclusive, the
 // other shared.
 ghost use Rattle.std.specs.Prelude.{◌≡◌, [], ◌∷◌};
-ghost use Rattle.store.specs.Access.{Octets};
-ghost use Rattle.store.specs.Bounds.{short_cut, octets_cut};
 ghost use Rattle.store.specs.Ends.{cut, past_limit};
 ghost use Rattle.store.specs.Unwritten.{nothing, along};
 
@@ -15,7 +13,6 @@ use fault::Fault;
 #[derive(Drop)]
 pub struct Memory<'a> {
     buffer: &'a mut [u8],
-    ghost octets: { Octets buffer.now },
 }
 
 impl<'a> Memory<'a> {
@@ -46,10 +43,6 @@ impl Source for Memory<'_> {
     fn read(&self, at: u64) -> Result<u8, Fault> {
         Held::new(self.buffer).read(at)
     }
-
-    ghost short = { λ m. short_cut m.buffer.now };
-
-    ghost each = { λ m. octets_cut m.buffer.now m.octets };
 }
 
 impl Store for Memory<'_> {

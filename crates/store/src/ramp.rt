@@ -1,6 +1,5 @@
 // Bytes that go up from 0 to 250, and again.
 ghost use Rattle.std.specs.Prelude.{◌≡◌};
-ghost use Rattle.store.specs.Bounds.{short_ramp, octets_ramp};
 ghost use Rattle.store.specs.Ends.{ramp_bytes};
 
 use crate::bounds::out_of_bounds;
@@ -42,8 +41,4 @@ impl Source for Ramp {
             Err(out_of_bounds(at))
         }
     }
-
-    ghost short = { λ r. short_ramp r.count };
-
-    ghost each = { λ r. octets_ramp r.count };
 }

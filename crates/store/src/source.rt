@@ -19,9 +19,4 @@ pub trait Source {
 
     fn read(&self, at: u64) -> Result<u8, Fault>
         ensures { result ≡ read_answer (bytes self.now) at };
-
-    // Of every value, so that code over any source has both without a call.
-    ghost short: { (s : Self) → length (bytes s) ≤ most_bytes };
-
-    ghost each: { (s : Self) → Octets (bytes s) };
 }

@@ -1,7 +1,7 @@
 // A run of the bytes of what is below, cut at its end.
-ghost use Rattle.std.specs.Prelude.{◌≡◌, ◌+◌, [], ◌∷◌, take, drop};
-ghost use Rattle.store.specs.Bounds.{short_window, octets_window};
-ghost use Rattle.store.specs.Ends.{window_bytes};
+ghost use Rattle.std.specs.Prelude.{◌≡◌, ◌+◌, ◌≤◌, [], ◌∷◌, length, take, drop};
+ghost use Rattle.store.specs.Access.{Octets};
+ghost use Rattle.store.specs.Ends.{most_bytes, window_bytes};
 ghost use Rattle.store.specs.Unwritten.{along};
 
 use crate::bounds::out_of_bounds;
@@ -38,7 +38,12 @@ impl<S> Window<S> {
 impl<S: Source> Source for Window<S> {
     ghost bytes = { λ w. window_bytes w.start w.count (S.Source.bytes w.below) };
 
-    fn len(&self) -> u64 {
+    fn len(&self) -> u64
+        ensures is { result ≡ length (window_bytes self.now.start self.now.count (S.Source.bytes self.now.below)) }
+        ensures short { result ≤ most_bytes }
+        ensures each { Octets (window_bytes self.now.start self.now.count (S.Source.bytes self.now.below)) }
+        ensures below { length (S.Source.bytes self.now.below) ≤ most_bytes }
+    {
         self.below.len().saturating_sub(self.start).min(self.count)
     }
 
@@ -49,10 +54,6 @@ impl<S: Source> Source for Window<S> {
             Err(out_of_bounds(at))
         }
     }
-
-    ghost short = { λ w. short_window w.start w.count (S.Source.bytes w.below) (S.Source.short w.below) };
-
-    ghost each = { λ w. octets_window w.start w.count (S.Source.bytes w.below) (S.Source.each w.below) };
 }
 
 impl<S: Store> Store for Window<S> {

@@ -1,8 +1,5 @@
 // An end that is not the library's: so many zero bytes.
-ghost use Rattle.std.specs.Prelude.{◌≤◌, replicate};
-ghost use Rattle.std.proofs.Common.{rules};
-ghost use Rattle.std.proofs.lemmas.Grind.{common_steps};
-ghost use Rattle.store.specs.Ends.{most_bytes};
+ghost use Rattle.std.specs.Prelude.{replicate};
 
 use fault::Fault;
 use store::{Source, out_of_bounds};
@@ -10,7 +7,6 @@ use store::{Source, out_of_bounds};
 #[derive(Clone, Copy)]
 pub(crate) struct Blank {
     pub(crate) count: u32,
-    ghost fits: { count ≤ most_bytes },
 }
 
 impl Source for Blank {
@@ -27,8 +23,4 @@ impl Source for Blank {
             Err(out_of_bounds(at))
         }
     }
-
-    ghost short = { Prim.search (rules, common_steps) };
-
-    ghost each = { Prim.search (rules, common_steps) };
 }

@@ -9,7 +9,7 @@ loop-at-preserved g c =
     let before = c.loop-at.at-iterator in
     let after = c.next.new.self in
     let step = c.in-Some.ensures.steps in
-    let next : drop before.a.start from ≡ c.in-Some.byte ∷ drop after.b.at (g.S.Source.bytes after.b.source.now) = sym c.loop-at.invariant.left ∙ step.1 in
+    let next : drop before.a.start from ≡ c.in-Some.byte ∷ drop after.b.places.start (g.S.Source.bytes after.b.source.now) = sym c.loop-at.invariant.left ∙ step.1 in
     let on : after.a.start ≡ before.a.start + 1 = step.0.1.2 in
     record {
       until = step.0.0 ∙ c.loop-at.invariant.until;

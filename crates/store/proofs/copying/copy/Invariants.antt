@@ -8,7 +8,7 @@ invariant-loop-at g l =
     record {
       until : l.at-iterator.a.end ≡ l.count;
       within : at ≤ l.count;
-      left : drop l.at-iterator.b.at (g.S.Source.bytes l.at-iterator.b.source.now) ≡ drop at (g.S.Source.bytes l.from);
+      left : drop l.at-iterator.b.places.start (g.S.Source.bytes l.at-iterator.b.source.now) ≡ drop at (g.S.Source.bytes l.from);
       copied : g.T.Source.bytes l.to ≡ take at (g.S.Source.bytes l.from) ++ drop at (g.T.Source.bytes l.initial.to);
       kept : g.T.Store.kept l.to ≡ g.T.Store.kept l.initial.to;
     }

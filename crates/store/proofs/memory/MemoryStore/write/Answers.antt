@@ -1,24 +1,12 @@
-use Rattle.std.proofs.Common.{ℕ, zero, suc, ◌<◌, List, [], ◌∷◌, set, ap, arith, length-take}
+use Rattle.std.proofs.Common.{[], ◌∷◌, ap, arith, length-take}
 use Rattle.std.proofs.lemmas.List.{drop-set-lt}
 use Rattle.store.specs.Ends.{most_bytes}
-use Rattle.store.specs.Access.{Octets}
 use Rattle.store.specs.Unwritten.{along, nothing}
 use Rattle.store.proofs.Answering.{write_within, write_past, take_of_set}
 use Rattle.store.proofs.memory.MemoryStore.write.Goals as goal
 
 pub bounds-self-at : goal.bounds-self-at
 bounds-self-at c = omega (arith, length-take most_bytes c.args.self.now.buffer.now)
-
--- a byte put among bytes
-octets_set : (bs : List ℕ) (i v : ℕ) → v < 256 → Octets bs → Octets (set bs i v)
-octets_set [] i v k h at = h at
-octets_set (x ∷ xs) zero v k h zero = k
-octets_set (x ∷ xs) zero v k h (suc at) = h (suc at)
-octets_set (x ∷ xs) (suc i) v k h zero = h zero
-octets_set (x ∷ xs) (suc i) v k h (suc at) = octets_set xs i v k (λ j. h (suc j)) at
-
-pub invariant_of-self : goal.invariant_of-self
-invariant_of-self c = record { octets = octets_set c.args.self.now.buffer.now c.args.at _ (omega (arith, c.args.self.now.octets c.args.at)) c.args.self.now.octets }
 
 pub returns-then-at-len : goal.returns-then-at-len
 returns-then-at-len c =
