@@ -11,7 +11,7 @@ use configuration::Configuration;
 use definition::Definition;
 use fault::Fault;
 
-#[derive(Clone, Copy)]
+#[derive(Clone, Copy, Debug, PartialEq, Eq)]
 pub struct Boxes<'a> {
     pub definition: Option<Definition<'a>>,
     pub configuration: Configuration,

@@ -14,7 +14,7 @@ use fields::{Reader, Whole, put, put_header, put_word};
 
 pub(crate) const UNCC: u32 = 0x756e_6343;
 
-#[derive(Clone, Copy)]
+#[derive(Clone, Copy, Debug, PartialEq, Eq)]
 pub enum Configuration {
     // Version 0: everything is listed.
     Listed(Listing),

@@ -8,7 +8,7 @@ use choices::Format;
 use fault::Fault;
 use fields::{Element, Item, Whole, put};
 
-#[derive(Clone, Copy)]
+#[derive(Clone, Copy, Debug, PartialEq, Eq)]
 pub struct Entry {
     // Which component of the definition, by its position there.
     pub index: u16,

@@ -13,7 +13,7 @@ use fault::Fault;
 use fields::{Reader, Table, Whole, put, put_word};
 
 // How values are packed into lines.
-#[derive(Clone, Copy)]
+#[derive(Clone, Copy, Debug, PartialEq, Eq)]
 pub struct Packing {
     pub sampling: Sampling,
     pub interleave: Interleave,
@@ -23,7 +23,7 @@ pub struct Packing {
 }
 
 // Sizes in bytes, 0 where nothing is rounded up, and how many tiles there are.
-#[derive(Clone, Copy)]
+#[derive(Clone, Copy, Debug, PartialEq, Eq)]
 pub struct Sizes {
     pub pixel_size: u32,
     pub row_align: u32,
@@ -32,7 +32,7 @@ pub struct Sizes {
     pub tile_rows_less_one: u32,
 }
 
-#[derive(Clone, Copy)]
+#[derive(Clone, Copy, Debug, PartialEq, Eq)]
 pub struct Listing {
     pub profile: u32,
     pub(crate) entries: Table<Entry>,

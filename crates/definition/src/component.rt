@@ -8,13 +8,13 @@ use fault::{Fault, Reason};
 use fields::{Element, Item, Reader, Whole, put, put_half};
 
 // A part of the box, by its offset and length.
-#[derive(Clone, Copy)]
+#[derive(Clone, Copy, Debug, PartialEq, Eq)]
 pub struct Span {
     pub at: u32,
     pub len: u32,
 }
 
-#[derive(Clone, Copy)]
+#[derive(Clone, Copy, Debug, PartialEq, Eq)]
 pub struct Component {
     // The type's number: 0 to 16 are the standard's, those from 0x8000 on the user's own.
     pub number: u16,

@@ -17,14 +17,14 @@ use fields::{Reader, Table, Whole, put_header, put_word};
 pub(crate) const CMPD: u32 = 0x636d_7064;
 
 // A URI as a part of the box: where it begins, and its bytes without the zero byte that ends it.
-#[derive(Clone, Copy)]
+#[derive(Clone, Copy, Debug, PartialEq, Eq)]
 pub struct Uri<'a> {
     pub place: u64,
     pub text: &'a [u8],
 }
 
 // The components, with the text that their URIs lie in.
-#[derive(Clone, Copy)]
+#[derive(Clone, Copy, Debug, PartialEq, Eq)]
 pub struct Definition<'a> {
     text: &'a [u8],
     components: Table<Component>,

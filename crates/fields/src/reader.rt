@@ -6,7 +6,7 @@ ghost use Rattle.fields.specs.Header.{header_of, count_at, end_at};
 
 use fault::{Fault, Layer, Reason};
 
-#[derive(Clone, Copy)]
+#[derive(Clone, Copy, Debug, PartialEq, Eq)]
 pub struct Reader<'a> {
     pub bytes: &'a [u8],
     pub layer: Layer,

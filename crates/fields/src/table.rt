@@ -5,7 +5,7 @@ ghost use Rattle.fields.specs.Items.{items, table_of};
 
 use crate::element::Element;
 
-#[derive(Clone, Copy)]
+#[derive(Clone, Copy, Debug, PartialEq, Eq)]
 pub struct Table<T> {
     // So many slots, from the first on, hold an element.
     count: u8,
