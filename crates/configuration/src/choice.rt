@@ -43,6 +43,7 @@ impl Choice for Flags {
 pub(crate) fn choice_at<C: Choice>(reader: Reader, at: usize) -> Result<C, Fault>
     ensures { result ≡ choice_by C.of reader.entry.layer reader.entry.bytes.now at }
 {
+    // A match: of a closure under `map_err` the proof here lacks which refusal it answers.
     match C::try_from(reader.byte(at)?) {
         Ok(choice) => Ok(choice),
         Err(_) => Err(reader.refuses(Reason::Reserved, at)),

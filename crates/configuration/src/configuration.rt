@@ -30,7 +30,7 @@ struct Opening {
     left: usize,
 }
 
-// Why an opening is refused that does not end within the box.
+// Why an opening is refused that does not end within the box: the one slice pattern below has no part of it to test.
 fn cut_short(bytes: &[u8]) -> Fault
     requires { length bytes.now < 16 }
     ensures { opening_of bytes.now ≡ Err result }

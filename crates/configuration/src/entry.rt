@@ -14,7 +14,7 @@ pub struct Entry {
     pub index: u16,
     pub depth_less_one: u8,
     pub format: Format,
-    // The bytes of the word that holds a value, or 0 where values are packed bit by bit.
+    // The bytes of the word that holds a value, or 0 where values are packed bit by bit: the number as it is stored.
     pub align: u8,
 }
 

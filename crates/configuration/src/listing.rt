@@ -17,12 +17,12 @@ use fields::{Reader, Table, Whole, put, put_word};
 pub struct Packing {
     pub sampling: Sampling,
     pub interleave: Interleave,
-    // The bytes of a block, or 0 where values are not packed into blocks.
+    // The bytes of a block, or 0 where values are not packed into blocks: the number as it is stored.
     pub block: u8,
     pub flags: Flags,
 }
 
-// Sizes in bytes, 0 where nothing is rounded up, and how many tiles there are.
+// Sizes in bytes, 0 where nothing is rounded up, and how many tiles there are: the numbers as they are stored.
 #[derive(Clone, Copy, Debug, PartialEq, Eq)]
 pub struct Sizes {
     pub pixel_size: u32,

@@ -16,7 +16,7 @@ pub struct Span {
 
 #[derive(Clone, Copy, Debug, PartialEq, Eq)]
 pub struct Component {
-    // The type's number: 0 to 16 are the standard's, those from 0x8000 on the user's own.
+    // The type's number, as it is stored: 0 to 16 are the standard's, those from 0x8000 on the user's own.
     pub number: u16,
     // Where the URI stands, without the zero byte that ends it.
     pub uri: Option<Span>,

@@ -1,4 +1,4 @@
-// A list of at most sixteen, in place: the elements, and blanks behind them.
+// A list of at most sixteen, in place since the library takes no heap: the elements, and blanks behind them.
 // No `impl Model`: a struct that holds a reference beside a struct with a model is not covered in a `Result` that goes through `?`.
 ghost use Rattle.std.specs.Prelude.{◌≡◌, ◌+◌, ◌<◌, ◌≤◌, length, take, slice_set};
 ghost use Rattle.fields.specs.Items.{items, table_of};

@@ -187,7 +187,7 @@ impl Frame {
         ensures is { result ≡ (grid (plan_of (view_of self.now.parts))).tiles * each.0 }
         ensures near { result ≤ 2 ^ 87 }
     {
-        self.tile_count() as u128 * each.0 as u128
+        u128::from(self.tile_count()) * u128::from(each.0)
     }
 
     // The bytes of a frame, which may be more than 64 bits count.

@@ -18,7 +18,14 @@ pub(crate) struct Received<'a> {
     pub(crate) lane: Lane<'a>,
     pub(crate) configuration: Vec<u8>,
     pub(crate) definition: Option<Vec<u8>>,
-    pub(crate) raw: Option<Vec<u8>>,
+    pub(crate) frame: Option<RawFrame>,
+}
+
+// The bytes of a raw frame, and after how many of them a ring cuts it.
+#[derive(Drop)]
+pub(crate) struct RawFrame {
+    pub(crate) bytes: Vec<u8>,
+    pub(crate) cut: usize,
 }
 
 fn bytes_of<'a>(rt: &HostRuntime, file: &'a str) -> Result<Vec<u8>, FileError<'a>> {
@@ -26,14 +33,14 @@ fn bytes_of<'a>(rt: &HostRuntime, file: &'a str) -> Result<Vec<u8>, FileError<'a
 }
 
 // A frame is at least as long as the part that its ring's end cuts off.
-fn frame_of<'a>(rt: &HostRuntime, raw: Raw<'a>) -> Result<Vec<u8>, FileError<'a>> {
+fn frame_of<'a>(rt: &HostRuntime, raw: Raw<'a>) -> Result<RawFrame, FileError<'a>> {
     let Raw { file, cut } = raw;
     let bytes = bytes_of(rt, file)?;
     let len = bytes.len();
     if cut > len {
         return Err(FileError::Cut { cut, len });
     }
-    Ok(bytes)
+    Ok(RawFrame { bytes, cut })
 }
 
 fn receive_one<'a>(rt: &HostRuntime, lane: Lane<'a>) -> Result<Received<'a>, FileError<'a>> {
@@ -41,7 +48,7 @@ fn receive_one<'a>(rt: &HostRuntime, lane: Lane<'a>) -> Result<Received<'a>, Fil
         lane,
         configuration: bytes_of(rt, lane.configuration)?,
         definition: lane.definition.map(|file| bytes_of(rt, file)).transpose()?,
-        raw: lane.raw.map(|raw| frame_of(rt, raw)).transpose()?,
+        frame: lane.raw.map(|raw| frame_of(rt, raw)).transpose()?,
     })
 }
 

@@ -129,8 +129,8 @@ pub(crate) fn print_lane(rt: &HostRuntime, received: &Received) -> Result<(), Fa
         }
         Err(fault) => println!(rt; "  {fault}")?,
     }
-    if let (Some(frame), Some(raw)) = (received.raw.as_deref(), received.lane.raw) {
-        print_frame(rt, frame, raw.cut)?;
+    if let Some(frame) = &received.frame {
+        print_frame(rt, frame.bytes.as_slice(), frame.cut)?;
     }
     Ok(())
 }

@@ -26,8 +26,7 @@ fn goes_with(sampling: Sampling, interleave: Interleave) -> bool
 fn is_alike(a: &Entry, b: &Entry) -> bool
     ensures { result ≡ alike a.now b.now }
 {
-    a.index != b.index
-        || (a.depth_less_one == b.depth_less_one && a.format == b.format && a.align == b.align)
+    a.index != b.index || a == b
 }
 
 fn all_like(a: &Entry, entries: &[Entry]) -> bool
