@@ -1,13 +1,11 @@
-use Rattle.std.proofs.Common.{◌≡◌, ℕ, ◌+◌, ◌*◌, map, length, get_or, drop, ap, ◌∙◌, arith}
+use Rattle.std.proofs.Common.{◌+◌, ◌*◌, map, length, drop, arith}
 use Rattle.std.proofs.lemmas.List.{length-take}
 use Rattle.plans.specs.Cells.{blocks_of, cell_of}
 use Rattle.layout.specs.Words.{word_in}
-use Rattle.layout.proofs.Entries.{none}
 use Rattle.layout.proofs.Rounds.{block_word_is, filled_fits}
 use Rattle.layout.proofs.blocks.Blocked.word.Goals as goal
 use Rattle.layout.proofs.blocks.Blocked.word.Goals.{After-filled_from-filled}
 use Rattle.placement.specs.Line.{repeated}
-use Rattle.placement.specs.Pack.{total}
 
 pub block_word-requires : goal.block_word-requires
 block_word-requires c =
