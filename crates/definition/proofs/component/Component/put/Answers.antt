@@ -1,6 +1,6 @@
 use Rattle.std.proofs.Common.{◌+◌, [], ◌∷◌, ◌++◌, length, sym, ap, ◌∙◌, arith}
 use Rattle.fields.specs.Put.{placed, half_bytes}
-use Rattle.definition.proofs.Describing.{with_uri, without_uri, length_with_uri}
+use Rattle.definition.proofs.Describing.{with_uri, length_with_uri}
 use Rattle.fields.proofs.Placing.{put-placed, then-put}
 use Rattle.definition.proofs.component.Component.put.Goals as goal
 
@@ -20,14 +20,4 @@ returns-in-Some c =
     record {
       next = omega arith;
       bytes = z ∙ ap (λ u. placed o at (half_bytes self.number ++ u ++ 0 ∷ [])) e ∙ ap (placed o at) (sym (with_uri text self c.in-Some.span c.in-Some.is));
-    }
-
-pub returns-in-None : goal.returns-in-None
-returns-in-None c =
-    let self = c.args.self.now in
-    let e = without_uri c.args.text.now self c.in-None.is in
-    let l = ap length e in
-    record {
-      next = omega arith;
-      bytes = put-placed c.args.out.now (half_bytes self.number) c.args.at c.put_half.ensures (omega arith) ∙ ap (placed c.args.out.now c.args.at) (sym e);
     }

@@ -4,9 +4,6 @@ use Rattle.definition.specs.Encoded.{described, described_bytes}
 use Rattle.definition.proofs.Describing.{length_firsts_more, firsts_all}
 use Rattle.definition.proofs.definition.Definition.size.Goals as goal
 
-pub overflow_add-size : goal.overflow_add-size
-overflow_add-size c = omega arith
-
 pub loop-component-preserved : goal.loop-component-preserved
 loop-component-preserved c =
     let more = length_firsts_more c.args.self.now.text.now c.components-component-items.result.now c.loop-component.component-index (omega arith) in
