@@ -42,9 +42,5 @@ pub fn check(boxes: &Boxes, width: u32, height: u32) -> Result<(), Fault>
     )?;
     require(side_fits(width) && side_fits(height), Reason::Dimensions)?;
     let listing = boxes.configuration.listing();
-    let typed = Typed {
-        boxes,
-        listing: &listing,
-    };
-    check_list(&typed, width, height)
+    check_list(&Typed::new(boxes, &listing), width, height)
 }
