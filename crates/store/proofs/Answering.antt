@@ -8,14 +8,21 @@ module _ (bs : List ℕ) (at : ℕ) where
   pub read_within : at < length bs → Ok (get_or bs at 0) ≡ read_answer bs at
   read_within h = grind (arith, nat_tests)
 
-  pub read_past : {f : Fault} → f ≡ outside at → length bs ≤ at → Err f ≡ read_answer bs at
-  read_past e h = ap (λ f. Err f) e ∙ grind (arith, nat_tests)
+  pub read_past : length bs ≤ at → Err (outside at) ≡ read_answer bs at
+  read_past h = grind (arith, nat_tests)
+
+  -- by a refusal that is known to name the place
+  pub read_refused : {f : Fault} → f ≡ outside at → length bs ≤ at → Err f ≡ read_answer bs at
+  read_refused e h = ap (λ f. Err f) e ∙ read_past h
 
   pub write_within : at < length bs → Ok tt ≡ write_answer bs at
   write_within h = grind (arith, nat_tests)
 
-  pub write_past : {f : Fault} → f ≡ outside at → length bs ≤ at → Err f ≡ write_answer bs at
-  write_past e h = ap (λ f. Err f) e ∙ grind (arith, nat_tests)
+  pub write_past : length bs ≤ at → Err (outside at) ≡ write_answer bs at
+  write_past h = grind (arith, nat_tests)
+
+  pub write_refused : {f : Fault} → f ≡ outside at → length bs ≤ at → Err f ≡ write_answer bs at
+  write_refused e h = ap (λ f. Err f) e ∙ write_past h
 
 -- two calls, each within its list
 module _ (xs ys : List ℕ) (i j : ℕ) (h : i < length xs) (k : j < length ys) where

@@ -17,23 +17,15 @@ drop-cut k n xs e =
     get_or-drop k xs i d ∙ ap (λ m. get_or xs m d) a ∙ sym (get_or-drop n xs i d))
 
 module _ (from to : List ℕ) (i : ℕ) where
-  -- one byte more, which is the first of what is left
-  module _ (v : ℕ) (rest : List ℕ) (next : drop i from ≡ v ∷ rest) where
-    pub is_within : i < length from
-    is_within = omega (arith, length-drop i from, ap length next)
-
-    pub left_after : rest ≡ drop (i + 1) from
-    left_after = let more = drop_more from i 0 is_within in cc
-
-    pub copy_turn : (old new : List ℕ) → i < length to → old ≡ take i from ++ drop i to → new ≡ set old i v → new ≡ take (i + 1) from ++ drop (i + 1) to
-    copy_turn old new k e f =
-        let first = drop_more from i 0 is_within in
-        let more = drop_more to i 0 k in
-        let put = set_at (take i from) (get_or to i 0) (drop (i + 1) to) (get_or from i 0) i (length-take-le i from (omega (arith, is_within))) in
-        let longer = take_more from i 0 is_within in
-        let group = append_assoc (take i from) (get_or from i 0 ∷ []) (drop (i + 1) to) in
-        let byte : v ≡ get_or from i 0 = cc in
-        cc
+  -- one byte more
+  pub copy_turn : (old new : List ℕ) (v : ℕ) → i < length from → i < length to → old ≡ take i from ++ drop i to → v ≡ get_or from i 0 → new ≡ set old i v
+      → new ≡ take (i + 1) from ++ drop (i + 1) to
+  copy_turn old new v h k e b f =
+      let more = drop_more to i 0 k in
+      let put = set_at (take i from) (get_or to i 0) (drop (i + 1) to) (get_or from i 0) i (length-take-le i from (omega arith)) in
+      let next = take_more from i 0 h in
+      let group = append_assoc (take i from) (get_or from i 0 ∷ []) (drop (i + 1) to) in
+      cc
 
   pub copy_end : i ≡ min (length from) (length to) → take i from ++ drop i to ≡ copied_bytes from to
   copy_end e =

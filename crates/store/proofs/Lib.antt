@@ -1,5 +1,4 @@
 pub mod Answering
-pub mod Comparing
 pub mod Counting
 pub mod Octetting
 pub mod Seams

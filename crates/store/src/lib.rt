@@ -3,7 +3,6 @@
 #![tactic(auto)]
 
 mod bounds;
-mod bytes;
 mod copying;
 mod held;
 mod join;

@@ -1,11 +1,18 @@
-use Rattle.std.proofs.Common.{◌≡◌, drop, Decides, sym, ◌∙◌}
-use Rattle.store.proofs.Comparing.{same_from_eq}
+use Rattle.std.proofs.Common.{ℕ, List, sym, refl, ◌∙◌, arith}
+use Rattle.std.proofs.lemmas.List.{take_more_same, take_all}
 use Rattle.store.proofs.sameness.same_bytes.Goals as goal
 
-pub returns-then-len : goal.returns-then-len
-returns-then-len g c =
-    let one = c.new.result in
-    let other = c.new-then-len.result in
-    let decides : Decides c.eq.result (drop one.places.start (g.S.Source.bytes one.source.now) ≡ drop other.places.start (g.T.Source.bytes other.source.now)) =
-    same_from_eq (λ b. drop b.places.start (g.S.Source.bytes b.source.now)) (λ b. drop b.places.start (g.T.Source.bytes b.source.now)) c.eq.result one other c.eq.ensures.ran in
-    (λ e. sym c.new.ensures ∙ decides.0 e ∙ c.new-then-len.ensures, λ e. decides.1 (c.new.ensures ∙ e ∙ sym c.new-then-len.ensures))
+pub loop-at-preserved : goal.loop-at-preserved
+loop-at-preserved g c =
+    let xs : List ℕ = g.S.Source.bytes c.args.one.now in
+    let ys : List ℕ = g.T.Source.bytes c.args.other.now in
+    take_more_same xs ys c.loop-at.at 0 (omega arith) (omega arith) c.loop-at.invariant
+    (sym c.byte_at.ensures ∙ c.if-byte_at.false ∙ c.byte_at-in-loop-at.ensures)
+
+pub returns : goal.returns
+returns g c =
+    let xs : List ℕ = g.S.Source.bytes c.args.one.now in
+    let ys : List ℕ = g.T.Source.bytes c.args.other.now in (
+      (λ _. sym (take_all c.loop-at.at xs (omega arith)) ∙ c.loop-at.invariant ∙ take_all c.loop-at.at ys (omega arith)),
+      (λ _. refl),
+    )

@@ -1,6 +1,6 @@
 use Rattle.std.proofs.Common.{◌<◌, arith, get_or-take, length-take}
 use Rattle.store.specs.Ends.{most_bytes}
-use Rattle.store.proofs.Answering.{read_within, read_past}
+use Rattle.store.proofs.Answering.{read_within, read_refused}
 use Rattle.store.proofs.held.HeldSource.read.Goals as goal
 
 pub bounds-self-at : goal.bounds-self-at
@@ -12,4 +12,4 @@ returns-then-at-len c =
     rw (← get_or-take most_bytes c.args.self.now.bytes.now c.args.at 0 l) (read_within _ _ (omega arith))
 
 pub returns-else-at-len : goal.returns-else-at-len
-returns-else-at-len c = read_past _ _ c.out_of_bounds.ensures (omega arith)
+returns-else-at-len c = read_refused _ _ c.out_of_bounds.ensures (omega arith)

@@ -1,6 +1,6 @@
 use Rattle.std.proofs.Common.{ℕ, List, ◌∙◌, arith}
 use Rattle.store.specs.Ends.{most_bytes}
-use Rattle.store.proofs.Answering.{read_past}
+use Rattle.store.proofs.Answering.{read_refused}
 use Rattle.store.proofs.Seams.{read_first, read-second}
 use Rattle.store.proofs.join.JoinSource.read.Goals as goal
 
@@ -17,4 +17,4 @@ returns-then-at-len g c =
     c.read-then-at-len.ensures ∙ rw c.len-seam.ensures.is (read-second most_bytes xs ys c.args.at (omega arith) (omega arith))
 
 pub returns-else-at-len : goal.returns-else-at-len
-returns-else-at-len g c = read_past _ _ c.out_of_bounds.ensures (omega arith)
+returns-else-at-len g c = read_refused _ _ c.out_of_bounds.ensures (omega arith)

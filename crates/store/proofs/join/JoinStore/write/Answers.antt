@@ -1,6 +1,6 @@
 use Rattle.std.proofs.Common.{ℕ, List, ◌++◌, take, ap, ◌∙◌, arith}
 use Rattle.store.specs.Ends.{most_bytes}
-use Rattle.store.proofs.Answering.{write_past}
+use Rattle.store.proofs.Answering.{write_refused}
 use Rattle.store.proofs.Seams.{write-first, write-second, set_first, set-second, kept-first, kept_second}
 use Rattle.store.proofs.join.JoinStore.write.Goals as goal
 
@@ -25,4 +25,4 @@ returns-then-at-len g c =
     }
 
 pub returns-else-at-len-clause-answer : goal.returns-else-at-len-clause-answer
-returns-else-at-len-clause-answer g c = write_past _ _ c.out_of_bounds.ensures (omega arith)
+returns-else-at-len-clause-answer g c = write_refused _ _ c.out_of_bounds.ensures (omega arith)

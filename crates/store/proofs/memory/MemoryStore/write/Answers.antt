@@ -2,7 +2,7 @@ use Rattle.std.proofs.Common.{[], ◌∷◌, ap, arith, length-take}
 use Rattle.std.proofs.lemmas.List.{drop-set-lt}
 use Rattle.store.specs.Ends.{most_bytes}
 use Rattle.store.specs.Unwritten.{along, nothing}
-use Rattle.store.proofs.Answering.{write_within, write_past, take_of_set}
+use Rattle.store.proofs.Answering.{write_within, write_refused, take_of_set}
 use Rattle.store.proofs.memory.MemoryStore.write.Goals as goal
 
 pub bounds-self-at : goal.bounds-self-at
@@ -18,4 +18,4 @@ returns-then-at-len c =
     }
 
 pub returns-else-at-len-clause-answer : goal.returns-else-at-len-clause-answer
-returns-else-at-len-clause-answer c = write_past _ _ c.out_of_bounds.ensures (omega arith)
+returns-else-at-len-clause-answer c = write_refused _ _ c.out_of_bounds.ensures (omega arith)
